@@ -1,0 +1,71 @@
+-- How omega reaches ℤ: z is over z - under z, two naturals of which one is 0, and sums, products by a natural, orders and
+-- distances of whole numbers are linear facts about these.
+use mathlib.Core.Path.{_≡_, refl, _∙_}
+use mathlib.Core.Bool.{Bool, true, false}
+use Prim.Native.Nat.{ℕ, zero, suc, _+_, _*_, _≤_}
+use native.Mathlib.Omega.{arith}
+use borrow.Author.Tests.{ltb-true, ltb-false}
+use lib.Dec.{ltb, leb→le, le→leb}
+use lib.IntN.{ℤ, pos, negsuc, negℤ, natAbs, subℕ, _+ℤ_, _-ℤ_, _*ℤ_}
+use lib.Signed.{_≤ℤ_}
+use Rattle.laws.specs.Magnitude.{difference-ge, difference-lt}
+
+abbrev pub over : ℤ → ℕ
+over (pos n) = n
+over (negsuc n) = 0
+
+abbrev pub under : ℤ → ℕ
+under (pos n) = 0
+under (negsuc n) = suc n
+
+subtracted-parts : (a b : ℕ) → over (subℕ a b) + b ≡ a + under (subℕ a b)
+subtracted-parts a b = go (ltb a b) refl
+  where
+    go : (t : Bool) → ltb a b ≡ t → over (subℕ a b) + b ≡ a + under (subℕ a b)
+    go true e = let h = ltb-true a b e in rw (difference-lt a b h) (omega arith)
+    go false e = let h = ltb-false a b e in rw (difference-ge a b h) (omega arith)
+
+pub sum-parts : (a b : ℤ) → over (a +ℤ b) + (under a + under b) ≡ over a + over b + under (a +ℤ b)
+sum-parts (pos a) (pos b) = omega arith
+sum-parts (pos a) (negsuc b) = let e = subtracted-parts a (suc b) in omega arith
+sum-parts (negsuc a) (pos b) = let e = subtracted-parts b (suc a) in omega arith
+sum-parts (negsuc a) (negsuc b) = omega arith
+
+negated-over : (a : ℤ) → over (negℤ a) ≡ under a
+negated-over (pos zero) = refl
+negated-over (pos (suc n)) = refl
+negated-over (negsuc n) = refl
+
+negated-under : (a : ℤ) → under (negℤ a) ≡ over a
+negated-under (pos zero) = refl
+negated-under (pos (suc n)) = refl
+negated-under (negsuc n) = refl
+
+pub product-over : (a : ℤ) (k : ℕ) → over (a *ℤ pos k) ≡ over a * k
+product-over (pos a) k = refl
+product-over (negsuc a) k = negated-over (pos (suc a * k)) ∙ omega arith
+
+pub product-under : (a : ℤ) (k : ℕ) → under (a *ℤ pos k) ≡ under a * k
+product-under (pos a) k = omega arith
+product-under (negsuc a) k = negated-under (pos (suc a * k))
+
+pub order-of-parts : (a b : ℤ) → over a + under b ≤ over b + under a → a ≤ℤ b
+order-of-parts (pos a) (pos b) h = record { le = le→leb a b (omega arith) }
+order-of-parts (pos a) (negsuc b) h = absurd (omega arith)
+order-of-parts (negsuc a) (pos b) h = record { le = tt }
+order-of-parts (negsuc a) (negsuc b) h = record { le = le→leb b a (omega arith) }
+
+pub parts-of-order : (a b : ℤ) → a ≤ℤ b → over a + under b ≤ over b + under a
+parts-of-order (pos a) (pos b) h = omega (arith, leb→le a b (h .le))
+parts-of-order (pos a) (negsuc b) h = absurd (h .le)
+parts-of-order (negsuc a) (pos b) h = omega arith
+parts-of-order (negsuc a) (negsuc b) h = omega (arith, leb→le b a (h .le))
+
+within : (z : ℤ) (p q d : ℕ) → over z + q ≡ p + under z → p ≤ q + d → q ≤ p + d → natAbs z ≤ d
+within (pos n) p q d e h k = omega arith
+within (negsuc n) p q d e h k = omega arith
+
+-- x lies within d of y
+pub distance : (x y : ℤ) (d : ℕ) → over x + under y ≤ over y + under x + d → over y + under x ≤ over x + under y + d → natAbs (x -ℤ y) ≤ d
+distance x y d h k =
+    within (x -ℤ y) (over x + under y) (over y + under x) d (omega (arith, sum-parts x (negℤ y), negated-over y, negated-under y)) (omega arith) (omega arith)

@@ -1,0 +1,1 @@
+// No code: the laws stand in specs/, a file a subject.

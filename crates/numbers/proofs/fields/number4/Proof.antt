@@ -1,0 +1,48 @@
+use Rattle.numbers.specs.FieldsLaws.{number-past-end, number-of-halves}
+use borrow.Author.Needs.{needs}
+use Rattle.numbers.proofs.fields.number4.Statement.{statement}
+use Rattle.numbers.proofs.fields.number4.Tie as tie
+use Rattle.numbers.proofs.fields.number4.Reads as reads
+use Rattle.numbers.proofs.fields.number4.Lts as lts
+use Rattle.numbers.proofs.fields.number2.Reads as number2-reads
+
+returns : tie.Need-returns
+returns c = search (needs, number-past-end)
+
+number2-requires : tie.Need-number2-requires
+number2-requires c κs = search needs
+
+cast-low : tie.Need-cast-low
+cast-low c = search needs
+
+add-number2 : tie.Need-add-number2
+add-number2 c = search needs
+
+number2-requires-2 : tie.Need-number2-requires-2
+number2-requires-2 c κs = search needs
+
+cast-high : tie.Need-cast-high
+cast-high c = search needs
+
+mul-result : tie.Need-mul-result
+mul-result c = search needs
+
+add-result : tie.Need-add-result
+add-result c = search needs
+
+returns-2 : tie.Need-returns-2
+returns-2 c = search (needs, number-of-halves 2 2)
+
+pub number4-spec : {M : Type 1} → statement M
+number4-spec =
+    tie.close
+    (tie.spec
+    returns
+    number2-requires
+    cast-low
+    add-number2
+    number2-requires-2
+    cast-high
+    mul-result
+    add-result
+    returns-2)

@@ -1,0 +1,48 @@
+use Rattle.numbers.specs.FieldsLaws.{number-past-end, number-of-halves}
+use borrow.Author.Needs.{needs}
+use Rattle.numbers.proofs.fields.number8.Statement.{statement}
+use Rattle.numbers.proofs.fields.number8.Tie as tie
+use Rattle.numbers.proofs.fields.number8.Reads as reads
+use Rattle.numbers.proofs.fields.number8.Lts as lts
+use Rattle.numbers.proofs.fields.number4.Reads as number4-reads
+
+returns : tie.Need-returns
+returns c = search (needs, number-past-end)
+
+number4-requires : tie.Need-number4-requires
+number4-requires c κs = search needs
+
+cast-low : tie.Need-cast-low
+cast-low c = search needs
+
+add-number4 : tie.Need-add-number4
+add-number4 c = search needs
+
+number4-requires-2 : tie.Need-number4-requires-2
+number4-requires-2 c κs = search needs
+
+cast-high : tie.Need-cast-high
+cast-high c = search needs
+
+mul-result : tie.Need-mul-result
+mul-result c = search needs
+
+add-result : tie.Need-add-result
+add-result c = search needs
+
+returns-2 : tie.Need-returns-2
+returns-2 c = search (needs, number-of-halves 4 4)
+
+pub number8-spec : {M : Type 1} → statement M
+number8-spec =
+    tie.close
+    (tie.spec
+    returns
+    number4-requires
+    cast-low
+    add-number4
+    number4-requires-2
+    cast-high
+    mul-result
+    add-result
+    returns-2)

@@ -1,0 +1,16 @@
+use mir.Facts.{toZ-ofZ}
+use borrow.Author.Needs.{needs}
+use Rattle.numbers.proofs.rounding.rounded_over_2_32.Statement.{statement}
+use Rattle.numbers.proofs.rounding.rounded_over_2_32.Tie as tie
+use Rattle.numbers.proofs.rounding.rounded_over_2_32.Reads as reads
+use Rattle.numbers.proofs.rounding.rounded_over_2_32.Lts as lts
+use Rattle.numbers.proofs.rounding.rounded_by.Reads as rounded-by-reads
+
+rounded-by-requires : tie.Need-rounded-by-requires
+rounded-by-requires c κs = search needs
+
+returns : tie.Need-returns
+returns c = rw (toZ-ofZ (record { sfits = c .rounded-by .ok })) (rw (toZ-ofZ (c .before .fits .n)) at (c .rounded-by .ensures))
+
+pub rounded-over-2-32-spec : {M : Type 1} → statement M
+rounded-over-2-32-spec = tie.close (tie.spec rounded-by-requires returns)

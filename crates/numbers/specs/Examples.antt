@@ -1,0 +1,13 @@
+-- Document 01: 2^23 / 2^24 rounds to 1, -2^23 / 2^24 to 0.
+use mathlib.Core.Path.{_≡_, refl}
+use Prim.Native.Nat.{_^_}
+use lib.IntN.{pos, negℤ}
+use Rattle.numbers.specs.Rounded.{rounded}
+
+pub half : rounded (pos (2 ^ 23)) (2 ^ 24) ≡ pos 1
+unfolding rounded
+half = refl
+
+pub half-below-zero : rounded (negℤ (pos (2 ^ 23))) (2 ^ 24) ≡ pos 0
+unfolding rounded
+half-below-zero = refl

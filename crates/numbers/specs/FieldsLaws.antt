@@ -1,0 +1,75 @@
+-- Laws of numbers among bytes: a number of two halves, a byte, nothing past the end, a sign.
+use mathlib.Core.Path.{_≡_, refl, sym, ap, _∙_}
+use mathlib.Core.Bool.{Bool, cond}
+use mathlib.Core.List.{List, [], _∷_, _++_}
+use Prim.Native.Nat.{ℕ, zero, suc, _+_, _-_, _*_, _^_, _≤_, _<_}
+use native.Mathlib.Nat.{mul-assoc, mul-comm, pow-suc, zero-add}
+use native.Mathlib.Omega.{arith}
+use native.Mathlib.Numerals.{add-one}
+use borrow.Author.Tests.{lt-ltb, le-ltb}
+use lib.Dec.{ltb}
+use lib.IntN.{ℤ, pos, negsuc, _-ℤ_}
+use mir.Syntax.{Width, w8, w16, w32, w64, w128}
+use mir.Val.{SFits, bits, hbits, toZ, ofZ}
+use mir.Facts.{toZ-pos, toZ-ofZ}
+use Rattle.laws.specs.Magnitude.{natural-difference, difference-lt}
+use Rattle.laws.specs.Pattern.{past-minus-one}
+use lib.ListN.{length, take, drop, getD, drop-of-length-le}
+use lib.Seq.{drop-cons, drop-drop, take-add, take-all, take-nil}
+use Rattle.numbers.specs.Fields.{littleEndian, numberAt, twosComplement}
+
+-- w bytes and then v more: the low part, and the high part after it
+joined : (w v : ℕ) (l : List ℕ) → littleEndian (take (w + v) l) ≡ littleEndian (take w l) + 256 ^ w * littleEndian (take v (drop w l))
+unfolding littleEndian
+joined zero v l = rw (zero-add v) (omega arith)
+joined (suc w) v [] = rw (take-nil (suc w + v), take-nil v) (omega arith)
+joined (suc w) v (b ∷ l) =
+    let e : suc w + v ≡ suc (w + v) = omega arith in
+    rw (e, joined w v l, pow-suc 256 w, mul-comm (256 ^ w) 256, mul-assoc 256 (256 ^ w) (littleEndian (take v (drop w l)))) (omega arith)
+
+-- a number of w + v bytes, by its halves
+pub number-of-halves : (w v : ℕ) (l : List ℕ) (place : ℕ) {low high : ℕ} → low ≡ numberAt w l place → high ≡ numberAt v l (place + w)
+    → low + 256 ^ w * high ≡ numberAt (w + v) l place
+unfolding numberAt
+number-of-halves w v l place e f = rw (e, f, ← drop-drop w place l) (sym (joined w v (drop place l)))
+
+pub number-of-byte : (l : List ℕ) (place : ℕ) → place < length l → getD l place 0 ≡ numberAt 1 l place
+unfolding numberAt littleEndian
+number-of-byte l place h = rw (drop-cons l place 0 h) (omega arith)
+
+pub number-past-end : (w : ℕ) (l : List ℕ) (place : ℕ) → length l ≤ place → 0 ≡ numberAt w l place
+unfolding numberAt littleEndian
+number-past-end w l place h = rw (drop-of-length-le l h, take-nil w)
+
+-- ---- the sign, at a width
+
+both-halves : (w : Width) → 2 * 2 ^ hbits w ≡ 2 ^ bits w
+both-halves w8 = refl
+both-halves w16 = refl
+both-halves w32 = refl
+both-halves w64 = refl
+both-halves w128 = refl
+
+-- a pattern of the lower half is itself
+pub signed-low : (w : Width) {x y : ℕ} → x ≡ y → x < 2 ^ hbits w → toZ w x ≡ twosComplement (2 ^ bits w) y
+unfolding twosComplement
+signed-low w {x} {y} e h = let b = both-halves w in rw (toZ-pos w h, ← e, lt-ltb (2 * x) (2 ^ bits w) (omega arith))
+
+-- one of the upper half is -1 less what it lacks to the last pattern
+module _ (w : Width) (x : ℕ) (h : 2 ^ hbits w ≤ x) (k : x < 2 ^ bits w) where
+  lacks-little : 2 ^ bits w - 1 - x < 2 ^ hbits w
+  lacks-little = omega (arith, both-halves w)
+
+  below-zero-is : negsuc 0 -ℤ toZ w (2 ^ bits w - 1 - x) ≡ negsuc (2 ^ bits w - 1 - x)
+  below-zero-is = rw (toZ-pos w lacks-little) (past-minus-one (2 ^ bits w - 1 - x))
+
+  pub signed-high-fits : SFits w (negsuc 0 -ℤ toZ w (2 ^ bits w - 1 - x))
+  signed-high-fits = rw below-zero-is (record { sfits = lacks-little })
+
+  pub signed-high : {y : ℕ} → x ≡ y → toZ w (ofZ w (negsuc 0 -ℤ toZ w (2 ^ bits w - 1 - x))) ≡ twosComplement (2 ^ bits w) y
+  unfolding twosComplement
+  signed-high {y} e =
+      let b = both-halves w in
+      let f : 2 ^ bits w - 1 - x ≡ 2 ^ bits w - suc x = omega arith in
+      toZ-ofZ signed-high-fits ∙ below-zero-is
+      ∙ rw (← e, le-ltb (2 * x) (2 ^ bits w) (omega arith), natural-difference x (2 ^ bits w), difference-lt x (2 ^ bits w) k, f)

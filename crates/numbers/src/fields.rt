@@ -1,0 +1,63 @@
+ghost use mathlib.Core.Path.{_≡_};
+ghost use Rattle.numbers.specs.Fields.{numberAt, signedAt};
+
+pub fn number1(bytes: &[u8], place: usize) -> u8
+    ensures { λ r. ⌜ r ≡ numberAt 1 (now (bytes .entry)) place ⌝ }
+{
+    if place < bytes.len() { bytes[place] } else { 0 }
+}
+
+pub fn number2(bytes: &[u8], place: usize) -> u16
+    ensures { λ r. ⌜ r ≡ numberAt 2 (now (bytes .entry)) place ⌝ }
+{
+    if bytes.len() <= place {
+        return 0;
+    }
+    let low = number1(bytes, place) as u16;
+    let high = number1(bytes, place + 1) as u16;
+    low + 256 * high
+}
+
+pub fn number4(bytes: &[u8], place: usize) -> u32
+    ensures { λ r. ⌜ r ≡ numberAt 4 (now (bytes .entry)) place ⌝ }
+{
+    if bytes.len() <= place {
+        return 0;
+    }
+    let low = number2(bytes, place) as u32;
+    let high = number2(bytes, place + 2) as u32;
+    low + 65536 * high
+}
+
+pub fn number8(bytes: &[u8], place: usize) -> u64
+    ensures { λ r. ⌜ r ≡ numberAt 8 (now (bytes .entry)) place ⌝ }
+{
+    if bytes.len() <= place {
+        return 0;
+    }
+    let low = number4(bytes, place) as u64;
+    let high = number4(bytes, place + 4) as u64;
+    low + 4294967296 * high
+}
+
+pub fn signed4(bytes: &[u8], place: usize) -> i32
+    ensures { λ r. ⌜ r ≡ signedAt 4 (now (bytes .entry)) place ⌝ }
+{
+    let number = number4(bytes, place);
+    if number < 2147483648 {
+        number as i32
+    } else {
+        -1 - ((4294967295 - number) as i32)
+    }
+}
+
+pub fn signed8(bytes: &[u8], place: usize) -> i64
+    ensures { λ r. ⌜ r ≡ signedAt 8 (now (bytes .entry)) place ⌝ }
+{
+    let number = number8(bytes, place);
+    if number < 9223372036854775808 {
+        number as i64
+    } else {
+        -1 - ((18446744073709551615 - number) as i64)
+    }
+}

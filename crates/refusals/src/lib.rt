@@ -1,0 +1,36 @@
+// How anything is refused, and what a lent buffer then holds.
+ghost use Rattle.refusals.specs.Refusals.{Settled};
+
+// A number of document 01's table and its detail, which is wide enough for the line of any text.
+pub struct Refusal {
+    pub number: u32,
+    pub detail: u64,
+}
+
+// What a check says.
+pub enum Verdict {
+    Accepted,
+    Refused(Refusal),
+}
+
+// What the filling of a lent buffer answers: how many bytes from its start are the result, or why there is none.
+pub enum Filled {
+    Length(usize),
+    Refused(Refusal),
+}
+
+// The answer passed on, with zeros after the result, and nothing but zeros where there is none.
+pub fn settled(answer: Filled, buffer: &mut [u8]) -> Filled
+    ensures { λ r. ⌜ Settled answer (now (buffer .entry)) r (now (buffer .exit)) ⌝ }
+{
+    match answer {
+        Filled::Length(length) => {
+            numbers::slices::clear_from(buffer, length);
+            answer
+        }
+        Filled::Refused(_) => {
+            numbers::slices::clear_from(buffer, 0);
+            answer
+        }
+    }
+}
