@@ -1,3 +1,4 @@
 pub mod Record
 pub mod Text
 pub mod Written
+pub mod RecordLaws

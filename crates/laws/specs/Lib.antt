@@ -3,5 +3,7 @@ pub mod Ring
 pub mod Linear
 pub mod Pattern
 pub mod Order
-pub mod Sums
 pub mod Cases
+pub mod Lists
+pub mod Sums
+pub mod Tables

@@ -1,0 +1,49 @@
+-- What the builder makes of contents lines, each a kind and a length, and of all bodies joined.
+use Prim.Native.Nat.{ℕ, zero, suc, _+_}
+use mathlib.Core.Bool.{Bool, true, _&&_}
+use mathlib.Core.List.{List, [], _∷_}
+use lib.Dec.{leb, ltb, eqb}
+use lib.ListN.{length, take, drop, getD}
+use Rattle.refusals.specs.declared.Verdict.{Verdict}
+use Rattle.refusals.specs.Refusals.{Outcome, checked, ask, andThen}
+use Rattle.image.specs.Layout.{linePlace}
+use Rattle.image.specs.Sections.{Section, imageOf}
+use Rattle.builder.specs.declared.Line.{Line}
+use Rattle.builder.specs.declared.Table.{Table}
+
+-- the bodies cut up by the lengths, each under its kind
+unfoldable pub sectionsOf : List Line → (bodies : List ℕ) → List Section
+sectionsOf [] bodies = []
+sectionsOf (l ∷ lines) bodies = record { kind = l .kind; body = take (l .length) bodies } ∷ sectionsOf lines (drop (l .length) bodies)
+
+-- kinds strictly rise above `previous`, and go up to 255
+unfoldable pub kindsRise : (previous : ℕ) → List Line → Bool
+kindsRise previous [] = true
+kindsRise previous (l ∷ lines) = ltb previous (l .kind) && (leb (l .kind) 255 && kindsRise (l .kind) lines)
+
+unfoldable pub lengthsTotal : List Line → ℕ
+lengthsTotal [] = 0
+lengthsTotal (l ∷ lines) = l .length + lengthsTotal lines
+
+-- the image's length
+abbrev pub imageLength : List Line → (bodies : List ℕ) → ℕ
+imageLength lines bodies = linePlace (length lines) + length bodies
+
+-- 18, 19, 17, for a buffer of `size` bytes
+unfoldable pub buildVerdict : (size : ℕ) → List Line → (bodies : List ℕ) → Verdict
+buildVerdict size lines bodies =
+    andThen (ask (leb 1 (length lines) && (leb (length lines) 16 && kindsRise 0 lines)) 18 0)
+    (andThen (ask (eqb (lengthsTotal lines) (length bodies) && leb (imageLength lines bodies) 4096) 19 0)
+    (ask (leb (imageLength lines bodies) size) 17 0))
+
+unfoldable pub buildImage : (size : ℕ) → List Line → (bodies : List ℕ) → Outcome
+buildImage size lines bodies = checked (buildVerdict size lines bodies) (imageOf (sectionsOf lines bodies))
+
+-- the lines of a table, `left` of them from line i on; past its 16 places a line is 0 and 0
+unfoldable pub tableLinesFrom : (kinds lengths : List ℕ) → (left i : ℕ) → List Line
+tableLinesFrom kinds lengths zero i = []
+tableLinesFrom kinds lengths (suc left) i =
+    record { kind = getD kinds i 0; length = getD lengths i 0 } ∷ tableLinesFrom kinds lengths left (i + 1)
+
+abbrev pub tableLines : Table → List Line
+tableLines table = tableLinesFrom (table .kinds) (table .lengths) (table .count) 0
