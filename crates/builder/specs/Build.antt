@@ -1,7 +1,7 @@
 -- What the builder makes of contents lines, each a kind and a length, and of all bodies joined.
-use Prim.Native.Nat.{ℕ, zero, suc, _+_}
 use mathlib.Core.Bool.{Bool, true, _&&_}
 use mathlib.Core.List.{List, [], _∷_}
+use Prim.Native.Nat.{ℕ, zero, suc, _+_}
 use lib.Dec.{leb, ltb, eqb}
 use lib.ListN.{length, take, drop, getD}
 use Rattle.refusals.specs.declared.Verdict.{Verdict}

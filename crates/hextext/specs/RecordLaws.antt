@@ -1,20 +1,20 @@
 -- Laws of digits, of the bytes that they spell, and of a line's form.
 use mathlib.Core.Path.{_≡_, refl, ap}
-use mathlib.Core.Bool.{Bool, true, false, _&&_, and-false}
+use mathlib.Core.Bool.{true, false, _&&_, and-false}
 use mathlib.Core.List.{List, [], _∷_}
 use Prim.Native.Nat.{ℕ, zero, suc, _+_, _-_, _*_, _≤_, _<_, suc-le-suc}
 use native.Mathlib.Omega.{arith}
 use native.Mathlib.Nat.{le-of-suc-le-suc}
 use native.Mathlib.Numerals.{add-one, sub-one}
+use borrow.Author.Tests.{lt-ltb, le-ltb, le-leb, lt-leb, ne-eqb, ltb-true, eqb-true}
 use lib.Dec.{ltb, eqb}
 use lib.ListN.{length, drop, getD, drop-of-length-le}
 use lib.Seq.{drop-cons}
-use borrow.Author.Tests.{lt-ltb, le-ltb, le-leb, lt-leb, ne-eqb, ltb-true, eqb-true}
-use Rattle.laws.specs.Cases.{split, decide, never, both-left, both-right}
+use Rattle.laws.specs.Cases.{split, never, both-left, both-right}
 use Rattle.laws.specs.Lists.{drop-two}
 use Rattle.laws.specs.Sums.{total}
 use Rattle.hextext.specs.declared.Record.the-variants.{Fault}
-use Rattle.hextext.specs.Record.{digit, allDigits, bytesOf, recordBytes, countOf, addressOf, typeOf, formed, judge}
+use Rattle.hextext.specs.Record.{digit, allDigits, bytesOf, recordBytes, countOf, formed, judge}
 
 -- ---- a digit, by where its character stands
 

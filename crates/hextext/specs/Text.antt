@@ -1,7 +1,7 @@
 -- A HEX text read: its lines judged in order, each a record, until the end record.
-use Prim.Native.Nat.{ℕ, _+_, _-_, min}
 use mathlib.Core.Bool.{cond}
 use mathlib.Core.List.{List, [], _∷_, _++_}
+use Prim.Native.Nat.{ℕ, _+_, _-_, min}
 use lib.Dec.{eqb}
 use lib.ListN.{length, take, getD}
 use Rattle.refusals.specs.Refusals.{Outcome, result, refused, refusal}

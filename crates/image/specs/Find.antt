@@ -1,9 +1,9 @@
 -- A kind's body: what it is, and where in the image it stands.
-use Prim.Native.Nat.{ℕ, zero, suc, _+_}
 use mathlib.Core.Bool.{Bool, true, false, cond}
 use mathlib.Core.List.{List, [], _∷_}
 use mathlib.Core.Option.{Option, none, some}
 use mathlib.Core.Path.{_≡_}
+use Prim.Native.Nat.{ℕ, zero, suc, _+_}
 use lib.Dec.{eqb}
 use denote.Ref.{RefT, now, ptr}
 use Rattle.refusals.specs.declared.Verdict.{Verdict}

@@ -1,6 +1,6 @@
 -- The sections of an image, and the image of a list of sections.
-use Prim.Native.Nat.{ℕ, zero, suc, _+_, _*_, _/_, _%_, _≤_, _<_}
 use mathlib.Core.List.{List, [], _∷_, _++_}
+use Prim.Native.Nat.{ℕ, zero, suc, _+_, _/_, _%_, _≤_, _<_}
 use lib.ListN.{length}
 use Rattle.laws.specs.Sums.{total}
 use Rattle.image.specs.Layout.{lineCount, linePlace, kindAt, bodyAt}

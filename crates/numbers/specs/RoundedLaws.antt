@@ -120,12 +120,17 @@ module _ (n d : ℕ) where
       let s : 2 * (n % d) + d < 2 * d = omega arith in
       sym (quotient-is p ∙ rw (div-eq-of-lt s) (ap pos (omega arith)))
 
-  -- a quotient that is rounded up has a denominator of 2 or more, so there is room for one more
-  pub rounded-up-fits : Fits w64 n → (d ≡ 0 → ⊥) → d - d / 2 ≤ n % d → Fits w64 (n / d + 1)
-  rounded-up-fits f z h =
-      let l = mod-lt n (positive z) in
-      let two : 2 ≤ d = omega arith in
-      record { fits = omega (arith, f .fits, div-mul-le-self n d, mul-le-mul-left (n / d) two) }
+  -- a quotient with a rest has a denominator of 2 or more, so there is room for one more
+  pub one-more-fits : Fits w64 n → 0 < n % d → Fits w64 (n / d + 1)
+  one-more-fits f h = split d 0 none (λ (p : 0 < d). some p)
+    where
+      none : d ≤ 0 → Fits w64 (n / d + 1)
+      none k = let e : d ≡ 0 = omega arith in rw (e, div-zero n) (record { fits = omega arith })
+
+      some : 0 < d → Fits w64 (n / d + 1)
+      some p =
+          let two : 2 ≤ d = omega (arith, mod-lt n p) in
+          record { fits = omega (arith, f .fits, div-mul-le-self n d, mul-le-mul-left (n / d) two) }
 
 -- ---- and a negative number by a natural: where its halves go
 

@@ -1,7 +1,7 @@
 -- A part of a slice, and a slice with zeros from a place on.
-use Prim.Native.Nat.{ℕ, _+_, _-_, min}
 use mathlib.Core.List.{List, _++_}
 use mathlib.Core.Path.{_≡_}
+use Prim.Native.Nat.{ℕ, _+_, _-_, min}
 use lib.ListN.{length, take, drop, replicate}
 use denote.Ref.{RefT, now, ptr}
 

@@ -1,10 +1,7 @@
-use Rattle.refusals.specs.RefusalsLaws.{settled-length, settled-refused}
 use borrow.Author.Needs.{needs}
+use Rattle.refusals.specs.RefusalsLaws.{settled-length, settled-refused}
 use Rattle.refusals.proofs.settled.Statement.{statement}
 use Rattle.refusals.proofs.settled.Tie as tie
-use Rattle.refusals.proofs.settled.Reads as reads
-use Rattle.refusals.proofs.settled.Lts as lts
-use Rattle.numbers.proofs.slices.clear_from.Reads as clear-from-reads
 
 enum-known-answer : tie.Need-enum-known-answer
 enum-known-answer c = search needs

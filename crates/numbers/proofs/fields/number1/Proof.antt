@@ -1,9 +1,7 @@
-use Rattle.numbers.specs.FieldsLaws.{number-of-byte, number-past-end}
 use borrow.Author.Needs.{needs}
+use Rattle.numbers.specs.FieldsLaws.{number-of-byte, number-past-end}
 use Rattle.numbers.proofs.fields.number1.Statement.{statement}
 use Rattle.numbers.proofs.fields.number1.Tie as tie
-use Rattle.numbers.proofs.fields.number1.Reads as reads
-use Rattle.numbers.proofs.fields.number1.Lts as lts
 
 shared-slice-read-result : tie.Need-shared-slice-read-result
 shared-slice-read-result c = search needs

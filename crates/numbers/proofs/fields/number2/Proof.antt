@@ -1,10 +1,7 @@
-use Rattle.numbers.specs.FieldsLaws.{number-past-end, number-of-halves}
 use borrow.Author.Needs.{needs}
+use Rattle.numbers.specs.FieldsLaws.{number-past-end, number-of-halves}
 use Rattle.numbers.proofs.fields.number2.Statement.{statement}
 use Rattle.numbers.proofs.fields.number2.Tie as tie
-use Rattle.numbers.proofs.fields.number2.Reads as reads
-use Rattle.numbers.proofs.fields.number2.Lts as lts
-use Rattle.numbers.proofs.fields.number1.Reads as number1-reads
 
 returns : tie.Need-returns
 returns c = search (needs, number-past-end)

@@ -1,11 +1,8 @@
-use Rattle.numbers.specs.FieldsLaws.{signed-low, signed-high-fits, signed-high}
-use mir.Syntax.{w32}
 use borrow.Author.Needs.{needs}
+use mir.Syntax.{w32}
+use Rattle.numbers.specs.FieldsLaws.{signed-low, signed-high-fits, signed-high}
 use Rattle.numbers.proofs.fields.signed4.Statement.{statement}
 use Rattle.numbers.proofs.fields.signed4.Tie as tie
-use Rattle.numbers.proofs.fields.signed4.Reads as reads
-use Rattle.numbers.proofs.fields.signed4.Lts as lts
-use Rattle.numbers.proofs.fields.number4.Reads as number4-reads
 
 number4-requires : tie.Need-number4-requires
 number4-requires c κs = search needs

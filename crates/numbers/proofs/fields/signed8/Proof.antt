@@ -1,11 +1,8 @@
-use Rattle.numbers.specs.FieldsLaws.{signed-low, signed-high-fits, signed-high}
-use mir.Syntax.{w64}
 use borrow.Author.Needs.{needs}
+use mir.Syntax.{w64}
+use Rattle.numbers.specs.FieldsLaws.{signed-low, signed-high-fits, signed-high}
 use Rattle.numbers.proofs.fields.signed8.Statement.{statement}
 use Rattle.numbers.proofs.fields.signed8.Tie as tie
-use Rattle.numbers.proofs.fields.signed8.Reads as reads
-use Rattle.numbers.proofs.fields.signed8.Lts as lts
-use Rattle.numbers.proofs.fields.number8.Reads as number8-reads
 
 number8-requires : tie.Need-number8-requires
 number8-requires c κs = search needs

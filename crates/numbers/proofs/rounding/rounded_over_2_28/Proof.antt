@@ -1,10 +1,7 @@
-use mir.Facts.{toZ-ofZ}
 use borrow.Author.Needs.{needs}
+use mir.Facts.{toZ-ofZ}
 use Rattle.numbers.proofs.rounding.rounded_over_2_28.Statement.{statement}
 use Rattle.numbers.proofs.rounding.rounded_over_2_28.Tie as tie
-use Rattle.numbers.proofs.rounding.rounded_over_2_28.Reads as reads
-use Rattle.numbers.proofs.rounding.rounded_over_2_28.Lts as lts
-use Rattle.numbers.proofs.rounding.rounded_by.Reads as rounded-by-reads
 
 rounded-by-requires : tie.Need-rounded-by-requires
 rounded-by-requires c κs = search needs

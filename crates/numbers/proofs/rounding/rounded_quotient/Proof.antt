@@ -1,9 +1,8 @@
-use Rattle.numbers.specs.RoundedLaws.{rounded-of-zero, rounded-up-fits, rounded-up, rounded-down}
+use native.Mathlib.Omega.{arith}
 use borrow.Author.Needs.{needs}
+use Rattle.numbers.specs.RoundedLaws.{rounded-of-zero, one-more-fits, rounded-up, rounded-down}
 use Rattle.numbers.proofs.rounding.rounded_quotient.Statement.{statement}
 use Rattle.numbers.proofs.rounding.rounded_quotient.Tie as tie
-use Rattle.numbers.proofs.rounding.rounded_quotient.Reads as reads
-use Rattle.numbers.proofs.rounding.rounded_quotient.Lts as lts
 
 returns : tie.Need-returns
 returns c = search (needs, rounded-of-zero)
@@ -18,13 +17,13 @@ sub-if2 : tie.Need-sub-if2
 sub-if2 c = search needs
 
 add-result : tie.Need-add-result
-add-result c = search (needs, rounded-up-fits)
+add-result c = one-more-fits _ _ (search needs) (omega arith)
 
 returns-2 : tie.Need-returns-2
-returns-2 c = search (needs, rounded-up)
+returns-2 c = rounded-up _ _ (search needs) (omega arith)
 
 returns-3 : tie.Need-returns-3
-returns-3 c = search (needs, rounded-down)
+returns-3 c = rounded-down _ _ (search needs) (omega arith)
 
 pub rounded-quotient-spec : {M : Type 1} → statement M
 rounded-quotient-spec =

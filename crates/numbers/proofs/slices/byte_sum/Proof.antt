@@ -1,13 +1,9 @@
-use borrow.Author.Needs.{needs}
 use Prim.Native.Nat.{_-_}
+use borrow.Author.Needs.{needs}
 use lib.ListN.{length}
 use Rattle.numbers.specs.SlicesLaws.{Summing, summing-first, summing-more, summing-end}
 use Rattle.numbers.proofs.slices.byte_sum.Statement.{statement}
 use Rattle.numbers.proofs.slices.byte_sum.Tie as tie
-use Rattle.numbers.proofs.slices.byte_sum.Reads as reads
-use Rattle.numbers.proofs.slices.byte_sum.Lts as lts
-use Rattle.numbers.proofs.slices.wide.Reads as wide-reads
-use Rattle.std.proofs.num.wrapping_add_u16.Reads as wrapping-add-u16-reads
 
 ruleset laws = (needs, summing-first, summing-more, summing-end)
 

@@ -1,11 +1,9 @@
-use borrow.Author.Needs.{needs}
 use Prim.Native.Nat.{_-_}
+use borrow.Author.Needs.{needs}
 use lib.ListN.{length}
 use Rattle.numbers.specs.SlicesLaws.{Clearing, clearing-first, clearing-more, clearing-end}
 use Rattle.numbers.proofs.slices.clear_from.Statement.{statement}
 use Rattle.numbers.proofs.slices.clear_from.Tie as tie
-use Rattle.numbers.proofs.slices.clear_from.Reads as reads
-use Rattle.numbers.proofs.slices.clear_from.Lts as lts
 
 ruleset laws = (needs, clearing-first, clearing-more, clearing-end)
 

@@ -1,13 +1,11 @@
 use mathlib.Core.Path.{refl}
 use Prim.Native.Nat.{_+_}
 use native.Mathlib.Omega.{arith}
+use borrow.Author.Needs.{needs}
 use lib.ListN.{length}
 use Rattle.numbers.specs.SlicesLaws.{part-between}
-use borrow.Author.Needs.{needs}
 use Rattle.numbers.proofs.slices.part.Statement.{statement}
 use Rattle.numbers.proofs.slices.part.Tie as tie
-use Rattle.numbers.proofs.slices.part.Reads as reads
-use Rattle.numbers.proofs.slices.part.Lts as lts
 
 sub-result : tie.Need-sub-result
 sub-result c = search needs
