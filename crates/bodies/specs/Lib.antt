@@ -1,0 +1,4 @@
+pub mod Identity
+pub mod Set
+pub mod Trim
+pub mod Note
