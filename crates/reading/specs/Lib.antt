@@ -1,0 +1,4 @@
+pub mod Value
+pub mod Frequency
+pub mod Polynomial
+pub mod Measured

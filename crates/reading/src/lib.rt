@@ -1,0 +1,40 @@
+// From counts to a reading.
+use refusals::Refusal;
+
+// A number on the way to a reading, or why there is none.
+mod value;
+
+// Cycles of a gauge's sensor.
+pub struct SensorCycles(pub u64);
+
+// Cycles of the 7.2 MHz reference, counted while the sensor ran its cycles.
+pub struct ReferenceCycles(pub u64);
+
+pub struct Channel {
+    pub sensor: SensorCycles,
+    pub reference: ReferenceCycles,
+}
+
+pub struct Counts {
+    pub pressure: Channel,
+    pub temperature: Channel,
+}
+
+// Pressure in 1/65,536 of the unit (1 psi, 2 bar, 3 kPa), temperature in 1/65,536 °C.
+pub struct Reading {
+    pub pressure: i64,
+    pub temperature: i64,
+    pub unit: u8,
+    pub mark: u8,
+}
+
+// What a panel is told: a reading, or a refusal, which holds no pressure.
+pub enum Answer {
+    Shown(Reading),
+    Refused(Refusal),
+}
+
+pub enum Trimming {
+    Untrimmed,
+    By(bodies::Trim),
+}

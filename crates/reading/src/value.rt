@@ -1,0 +1,6 @@
+use refusals::Refusal;
+
+pub enum Value {
+    Known(i64),
+    Refused(Refusal),
+}
