@@ -2,7 +2,7 @@
 use mathlib.Core.Path.{_≡_, refl}
 use mathlib.Core.Bool.{Bool, true, false}
 use Prim.Native.Nat.{ℕ, zero, suc, _+_, _-_, _*_, _≤_, _<_, zero-le}
-use native.Mathlib.Nat.{le-refl}
+use native.Mathlib.Nat.{le-refl, mul-le-mul}
 use native.Mathlib.Omega.{arith}
 use borrow.Author.Tests.{lt-ltb, le-ltb, ltb-true, ltb-false}
 use lib.Dec.{ltb}
@@ -55,3 +55,6 @@ magnitude-difference-low a b =
     let h = rw (+ℤ-comm (negℤ b) a) at (magnitude-sum-low (negℤ b) a) in
     let e = magnitude-negated b in
     omega arith
+
+pub magnitude-product-le : (a b : ℤ) {A B : ℕ} → natAbs a ≤ A → natAbs b ≤ B → natAbs (a *ℤ b) ≤ A * B
+magnitude-product-le a b h k = rw (magnitude-product a b) (mul-le-mul h k)

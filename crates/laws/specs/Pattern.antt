@@ -1,10 +1,12 @@
 -- A signed number and the bits that hold it.
 use mathlib.Core.Path.{_≡_, refl, ap, _∙_}
+use mathlib.Core.Bool.{true}
 use Prim.Native.Nat.{ℕ, zero, suc, _-_, _^_, _≤_, _<_}
 use native.Mathlib.Nat.{le-refl, zero-add}
 use native.Mathlib.Omega.{arith}
+use borrow.Author.Tests.{ltb-true}
 use lib.IntN.{ℤ, pos, negsuc, natAbs, _-ℤ_}
-use lib.Signed.{mag}
+use lib.Signed.{mag, ltZ}
 use mir.Syntax.{Width, w64}
 use mir.Val.{SFits, toZ, ofZ, hbits}
 use mir.Facts.{toZ-ofZ}
@@ -26,5 +28,6 @@ pub past-minus-one : (y : ℕ) → negsuc 0 -ℤ pos y ≡ negsuc y
 past-minus-one zero = refl
 past-minus-one (suc y) = ap negsuc (ap suc (zero-add y))
 
-pub back-from-minus-one : (a : ℕ) → negsuc 0 -ℤ negsuc a ≡ pos a
-back-from-minus-one a = let h : 1 ≤ suc a = omega arith in let e : suc a - 1 ≡ a = omega arith in difference-ge (suc a) 1 h ∙ rw e
+pub minus-one-less : (z : ℤ) → ltZ z (pos 0) ≡ true → negsuc 0 -ℤ z ≡ pos (mag z)
+minus-one-less (pos a) e = let h = ltb-true a 0 e in absurd (omega arith)
+minus-one-less (negsuc a) e = let h : 1 ≤ suc a = omega arith in let n : suc a - 1 ≡ a = omega arith in difference-ge (suc a) 1 h ∙ rw n

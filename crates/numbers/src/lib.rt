@@ -2,6 +2,10 @@
 
 // n / d to the nearest whole number.
 pub mod rounding;
+mod sign;
+
+// Signed numbers.
+pub mod whole;
 
 // Numbers among bytes, low byte first.
 pub mod fields;

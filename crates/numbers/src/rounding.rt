@@ -1,3 +1,5 @@
+use crate::sign::below_minus_one;
+use crate::sign::natural;
 ghost use mathlib.Core.Path.{_≡_};
 ghost use Prim.Native.Nat.{_<_, _%_, _^_};
 ghost use lib.IntN.{pos};
@@ -26,11 +28,10 @@ fn rounded_by(n: i64, d: u64) -> i64
 {
     if n < 0 {
         // n is -(less + 1): by an even d, less rounds as less + 1 does, but where that is a half, which so goes up
-        let less = (-1 - n) as u64;
-        0 - (rounded_quotient(less, d) as i64)
-    } else {
-        rounded_quotient(n as u64, d) as i64
+        let less = below_minus_one(n);
+        return 0 - (rounded_quotient(less, d) as i64);
     }
+    rounded_quotient(natural(n), d) as i64
 }
 
 pub fn rounded_over_2_24(n: i64) -> i64

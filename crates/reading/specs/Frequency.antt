@@ -1,6 +1,6 @@
 -- From counts to a frequency, and from a frequency to X.
-use Prim.Native.Nat.{ℕ, _*_, _^_}
 use mathlib.Core.Bool.{cond, _&&_}
+use Prim.Native.Nat.{ℕ, _*_, _^_}
 use lib.Dec.{leb, eqb}
 use lib.IntN.{ℤ, pos, _-ℤ_, _*ℤ_}
 use lib.Signed.{leZ}
@@ -22,9 +22,11 @@ frequencyOf channel ns nr =
     (given (ask (leZ (pos 655360000) (hertz ns nr) && leZ (hertz ns nr) (pos 6553600000)) 23 channel)
     (Known (hertz ns nr))))
 
--- X = M × (F - F0) / 2^32 rounded; 2^24 stands for 1, and 24 is given beyond it. Where the order is 0 nothing is worked out:
--- the coefficients that X would meet are absent, and 0 stands in
+-- X = M × (F - F0) / 2^32 rounded; 2^24 stands for 1, and 24 is given beyond it
+unfoldable pub scaledOf : (detail multiplier : ℕ) → (difference : ℤ) → Value
+scaledOf detail multiplier difference = within (2 ^ 24) 24 detail (rounded (pos multiplier *ℤ difference) (2 ^ 32))
+
+-- where the order is 0 nothing is worked out: the coefficients that X would meet are absent, and 0 stands in
 unfoldable pub prescaledOf : (detail : ℕ) → Prescale → (frequency : ℤ) → Value
 prescaledOf detail prescale frequency =
-    cond (eqb (prescale .order) 0) (Known (pos 0))
-    (within (2 ^ 24) 24 detail (rounded (pos (prescale .multiplier) *ℤ (frequency -ℤ pos (prescale .offset))) (2 ^ 32)))
+    cond (eqb (prescale .order) 0) (Known (pos 0)) (scaledOf detail (prescale .multiplier) (frequency -ℤ pos (prescale .offset)))

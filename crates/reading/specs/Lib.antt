@@ -2,3 +2,6 @@ pub mod Value
 pub mod Frequency
 pub mod Polynomial
 pub mod Measured
+pub mod ValueLaws
+pub mod FrequencyLaws
+pub mod PolynomialLaws

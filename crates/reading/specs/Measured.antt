@@ -1,7 +1,7 @@
 -- Mark, trim, and the whole way from counts to an answer.
-use Prim.Native.Nat.{ℕ, _+_, _^_}
 use mathlib.Core.Bool.{Bool, cond, _||_}
 use mathlib.Core.List.{List}
+use Prim.Native.Nat.{ℕ, _+_, _^_}
 use lib.Dec.{leb}
 use lib.IntN.{ℤ, pos, natAbs, _+ℤ_, _*ℤ_}
 use lib.Signed.{ltZ}

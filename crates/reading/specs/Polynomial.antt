@@ -1,8 +1,9 @@
 -- The sum of a set: each row in XT, then the rows' sums in XP. `kind` is the set's, 2 or 3.
-use Prim.Native.Nat.{ℕ, _+_, _^_}
 use mathlib.Core.List.{List, [], _∷_}
+use Prim.Native.Nat.{ℕ, _+_, _^_}
 use lib.IntN.{ℤ, pos, _+ℤ_, _*ℤ_}
 use Rattle.numbers.specs.Rounded.{rounded}
+use Rattle.bodies.specs.declared.Prescale.{Prescale}
 use Rattle.bodies.specs.declared.Set.{Set}
 use Rattle.reading.specs.declared.value.Value.{Value}
 use Rattle.reading.specs.declared.value.Value.the-variants.{Known}
@@ -18,14 +19,23 @@ unfoldable pub rowSum : (kind : ℕ) → (x : ℤ) → List ℤ → Value
 rowSum kind x [] = Known (pos 0)
 rowSum kind x (c ∷ row) = withValue (rowSum kind x row) (λ sum. stepOf kind x c sum)
 
+-- the rows' sums, summed the same way with XP
+unfoldable pub rowStep : (kind : ℕ) → (xp xt : ℤ) → List ℤ → (sum : ℤ) → Value
+rowStep kind xp xt row sum = withValue (rowSum kind xt row) (λ c. stepOf kind xp c sum)
+
 unfoldable pub gridSum : (kind : ℕ) → (xp xt : ℤ) → List (List ℤ) → Value
 gridSum kind xp xt [] = Known (pos 0)
-gridSum kind xp xt (row ∷ rows) =
-    withValue (gridSum kind xp xt rows) (λ sum. withValue (rowSum kind xt row) (λ c. stepOf kind xp c sum))
+gridSum kind xp xt (row ∷ rows) = withValue (gridSum kind xp xt rows) (λ sum. rowStep kind xp xt row sum)
 
--- a set's result, 26, from its own prescale of both frequencies; `first` is the detail of its XP, and its XT has the next
-unfoldable pub setResult : (kind first : ℕ) → Set → (grid : List (List ℤ)) → (pressureFrequency temperatureFrequency : ℤ) → Value
-setResult kind first set grid pressureFrequency temperatureFrequency =
-    withValue (prescaledOf first (set .pressure) pressureFrequency)
-    (λ xp. withValue (prescaledOf (first + 1) (set .temperature) temperatureFrequency)
-    (λ xt. withValue (gridSum kind xp xt grid) (within (2 ^ 31) 26 kind)))
+-- a set's result: 26
+unfoldable pub gridResult : (kind : ℕ) → (xp xt : ℤ) → List (List ℤ) → Value
+gridResult kind xp xt grid = withValue (gridSum kind xp xt grid) (λ sum. within (2 ^ 31) 26 kind sum)
+
+-- it comes from the set's own prescale of both frequencies; `first` is the detail of its XP, and its XT has the next
+unfoldable pub resultFromXp : (kind detail : ℕ) → (xp : ℤ) → Prescale → (temperature : ℤ) → List (List ℤ) → Value
+resultFromXp kind detail xp scale temperature grid =
+    withValue (prescaledOf detail scale temperature) (λ xt. gridResult kind xp xt grid)
+
+unfoldable pub setResult : (kind first : ℕ) → Set → List (List ℤ) → (pressure temperature : ℤ) → Value
+setResult kind first set grid pressure temperature =
+    withValue (prescaledOf first (set .pressure) pressure) (λ xp. resultFromXp kind (first + 1) xp (set .temperature) temperature grid)

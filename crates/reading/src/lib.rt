@@ -4,6 +4,12 @@ use refusals::Refusal;
 // A number on the way to a reading, or why there is none.
 mod value;
 
+// Frequencies, and X.
+mod frequency;
+
+// The sum of a set.
+mod polynomial;
+
 // Cycles of a gauge's sensor.
 pub struct SensorCycles(pub u64);
 

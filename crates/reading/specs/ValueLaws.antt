@@ -1,0 +1,40 @@
+-- What a known value says of the checks before it, and both answers of `within`.
+use mathlib.Core.Path.{_≡_, refl}
+use mathlib.Core.Bool.{Bool, true, false}
+use Prim.Native.Nat.{ℕ, _≤_, _<_}
+use native.Mathlib.Omega.{arith}
+use borrow.Author.Tests.{le-leb, lt-leb, leb-true}
+use lib.Dec.{leb}
+use lib.IntN.{ℤ, natAbs}
+use Rattle.laws.specs.Cases.{decide}
+use Rattle.refusals.specs.declared.Verdict.{Verdict}
+use Rattle.refusals.specs.declared.Verdict.the-variants.{Accepted, Refused as NotAccepted}
+use Rattle.refusals.specs.Refusals.{refusal, ask}
+use Rattle.reading.specs.declared.value.Value.{Value}
+use Rattle.reading.specs.declared.value.Value.the-variants.{Known, Refused}
+use Rattle.reading.specs.Value.{given, within}
+
+-- a value that is known has passed the check before it
+pub given-known : (v : Verdict) (w : Value) (z : ℤ) → given v w ≡ Known z → w ≡ Known z
+given-known Accepted w z e = e
+given-known (NotAccepted r) w z e = let n : _≡_ {A = ℕ} 0 1 = cc in absurd (omega arith)
+
+pub given-passed : (b : Bool) (number detail : ℕ) (w : Value) (z : ℤ) → given (ask b number detail) w ≡ Known z → b ≡ true
+given-passed true number detail w z e = refl
+given-passed false number detail w z e = let n : _≡_ {A = ℕ} 0 1 = cc in absurd (omega arith)
+
+module _ (most number detail : ℕ) (z : ℤ) where
+  pub within-known : natAbs z ≤ most → Known z ≡ within most number detail z
+  unfolding within
+  within-known h = rw (le-leb (natAbs z) most h)
+
+  pub within-beyond : most < natAbs z → Refused (refusal number detail) ≡ within most number detail z
+  unfolding within
+  within-beyond h = rw (lt-leb (natAbs z) most h)
+
+  pub within-says : (y : ℤ) → within most number detail z ≡ Known y → (z ≡ y) × (natAbs y ≤ most)
+  unfolding within
+  within-says y e =
+      decide (leb (natAbs z) most)
+      (λ (q : leb (natAbs z) most ≡ true). let same : z ≡ y = cc (rw q at e) in (same, rw (← same) (leb-true (natAbs z) most q)))
+      (λ (q : leb (natAbs z) most ≡ false). let z : _≡_ {A = ℕ} 0 1 = cc (rw q at e) in absurd (omega arith))

@@ -1,0 +1,71 @@
+use crate::ReferenceCycles;
+use crate::SensorCycles;
+use crate::value::Value;
+use crate::value::limited;
+use crate::value::refused;
+use bodies::Prescale;
+ghost use mathlib.Core.Path.{_≡_};
+ghost use Prim.Native.Nat.{_≤_};
+ghost use lib.IntN.{natAbs};
+ghost use Rattle.reading.specs.Frequency.{frequencyOf, scaledOf, prescaledOf};
+
+// F, in 1/65,536 Hz.
+pub fn frequency(channel: u64, sensor: SensorCycles, reference: ReferenceCycles) -> Value
+    ensures { λ r. ⌜ r ≡ frequencyOf channel (sensor .0) (reference .0) ⌝ }
+{
+    let cycles = sensor.0;
+    let references = reference.0;
+    if cycles == 0 {
+        return refused(21, channel);
+    }
+    if 1048576 < cycles {
+        return refused(21, channel);
+    }
+    if references == 0 {
+        return refused(22, channel);
+    }
+    let hertz = numbers::rounding::rounded_quotient(471859200000 * cycles, references);
+    if hertz < 655360000 {
+        return refused(23, channel);
+    }
+    if 6553600000 < hertz {
+        return refused(23, channel);
+    }
+    Value::Known(hertz as i64)
+}
+
+// M × difference / 2^32 rounded.
+fn scaled(detail: u64, multiplier: u32, difference: i64) -> Value
+    ensures { λ r. ⌜ r ≡ scaledOf detail multiplier difference ⌝ }
+{
+    let factor = multiplier as u64;
+    if factor == 0 {
+        return Value::Known(0);
+    }
+    // a product that might not fit is far beyond the limit
+    if 144115188075855872 / factor < numbers::whole::magnitude(difference) {
+        return refused(24, detail);
+    }
+    let product = (factor as i64) * difference;
+    let x = numbers::rounding::rounded_over_2_32(product);
+    limited(16777216, 24, detail, x)
+}
+
+// X of a frequency that is no higher than 23 allows.
+pub fn prescaled(detail: u64, prescale: Prescale, frequency: i64) -> Value
+    requires { ⌜ natAbs frequency ≤ 6553600000 ⌝ }
+    ensures { λ r. ⌜ r ≡ prescaledOf detail prescale frequency ⌝ }
+{
+    if prescale.order == 0 {
+        return Value::Known(0);
+    }
+    let offset = prescale.offset;
+    if offset <= 4611686018427387904 {
+        return scaled(detail, prescale.multiplier, frequency - (offset as i64));
+    }
+    // so large an offset puts X far beyond its limit, but where there is nothing to multiply
+    if prescale.multiplier == 0 {
+        return Value::Known(0);
+    }
+    refused(24, detail)
+}

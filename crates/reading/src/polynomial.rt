@@ -1,0 +1,122 @@
+use crate::frequency::prescaled;
+use crate::value::Value;
+use crate::value::limited;
+use crate::value::refused;
+use bodies::Prescale;
+use bodies::Set;
+ghost use mathlib.Core.Path.{_≡_};
+ghost use Prim.Native.Nat.{_≤_, _^_};
+ghost use lib.IntN.{natAbs};
+ghost use Rattle.reading.specs.Polynomial.{stepOf, rowSum, rowStep, gridSum, gridResult, resultFromXp, setResult};
+
+// One step of a running sum.
+fn step(kind: u64, x: i64, coefficient: i64, sum: i64) -> Value
+    requires { ⌜ (natAbs x ≤ 2 ^ 24) × (natAbs sum ≤ 500000000000) ⌝ }
+    ensures { λ r. ⌜ r ≡ stepOf kind x coefficient sum ⌝ }
+{
+    // a coefficient this large cannot come back within the limit
+    if 1000000000000 < numbers::whole::magnitude(coefficient) {
+        return refused(25, kind);
+    }
+    let next = coefficient + numbers::rounding::rounded_over_2_24(sum * x);
+    limited(500000000000, 25, kind, next)
+}
+
+fn row_sum(kind: u64, x: i64, row: [i64; 5]) -> Value
+    requires { ⌜ natAbs x ≤ 2 ^ 24 ⌝ }
+    ensures { λ r. ⌜ r ≡ rowSum kind x row ⌝ }
+{
+    let mut sum: i64 = 0;
+    let mut i: usize = 5;
+    while 0 < i {
+        i -= 1;
+        match step(kind, x, row[i], sum) {
+            Value::Known(next) => {
+                sum = next;
+            }
+            Value::Refused(refusal) => {
+                return Value::Refused(refusal);
+            }
+        }
+    }
+    Value::Known(sum)
+}
+
+// One step of the rows' running sum: a row's own sum is the coefficient.
+fn row_step(kind: u64, xp: i64, xt: i64, row: [i64; 5], sum: i64) -> Value
+    requires { ⌜ (natAbs xp ≤ 2 ^ 24) × (natAbs xt ≤ 2 ^ 24) × (natAbs sum ≤ 500000000000) ⌝ }
+    ensures { λ r. ⌜ r ≡ rowStep kind xp xt row sum ⌝ }
+{
+    match row_sum(kind, xt, row) {
+        Value::Known(coefficient) => step(kind, xp, coefficient, sum),
+        Value::Refused(refusal) => Value::Refused(refusal),
+    }
+}
+
+fn grid_sum(kind: u64, xp: i64, xt: i64, grid: [[i64; 5]; 5]) -> Value
+    requires { ⌜ (natAbs xp ≤ 2 ^ 24) × (natAbs xt ≤ 2 ^ 24) ⌝ }
+    ensures { λ r. ⌜ r ≡ gridSum kind xp xt grid ⌝ }
+{
+    let mut sum: i64 = 0;
+    let mut i: usize = 5;
+    while 0 < i {
+        i -= 1;
+        let row = grid[i];
+        match row_step(kind, xp, xt, row, sum) {
+            Value::Known(next) => {
+                sum = next;
+            }
+            Value::Refused(refusal) => {
+                return Value::Refused(refusal);
+            }
+        }
+    }
+    Value::Known(sum)
+}
+
+fn grid_result(kind: u64, xp: i64, xt: i64, grid: [[i64; 5]; 5]) -> Value
+    requires { ⌜ (natAbs xp ≤ 2 ^ 24) × (natAbs xt ≤ 2 ^ 24) ⌝ }
+    ensures { λ r. ⌜ r ≡ gridResult kind xp xt grid ⌝ }
+{
+    match grid_sum(kind, xp, xt, grid) {
+        Value::Known(sum) => limited(2147483648, 26, kind, sum),
+        Value::Refused(refusal) => Value::Refused(refusal),
+    }
+}
+
+fn result_from_xp(
+    kind: u64,
+    detail: u64,
+    xp: i64,
+    scale: Prescale,
+    temperature: i64,
+    grid: [[i64; 5]; 5],
+) -> Value
+    requires { ⌜ (natAbs xp ≤ 2 ^ 24) × (natAbs temperature ≤ 6553600000) ⌝ }
+    ensures { λ r. ⌜ r ≡ resultFromXp kind detail xp scale temperature grid ⌝ }
+{
+    match prescaled(detail, scale, temperature) {
+        Value::Known(xt) => grid_result(kind, xp, xt, grid),
+        Value::Refused(refusal) => Value::Refused(refusal),
+    }
+}
+
+// A set's result from its own prescale of both frequencies.
+pub fn set_result(
+    kind: u64,
+    first: u64,
+    set: Set,
+    grid: [[i64; 5]; 5],
+    pressure: i64,
+    temperature: i64,
+) -> Value
+    requires { ⌜ (natAbs pressure ≤ 6553600000) × (natAbs temperature ≤ 6553600000) × (first ≤ 3) ⌝ }
+    ensures { λ r. ⌜ r ≡ setResult kind first set grid pressure temperature ⌝ }
+{
+    let by_pressure = set.pressure;
+    let by_temperature = set.temperature;
+    match prescaled(first, by_pressure, pressure) {
+        Value::Known(xp) => result_from_xp(kind, first + 1, xp, by_temperature, temperature, grid),
+        Value::Refused(refusal) => Value::Refused(refusal),
+    }
+}
