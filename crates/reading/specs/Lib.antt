@@ -5,3 +5,4 @@ pub mod Measured
 pub mod ValueLaws
 pub mod FrequencyLaws
 pub mod PolynomialLaws
+pub mod MeasuredLaws

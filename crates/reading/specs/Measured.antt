@@ -30,15 +30,15 @@ markOf identity pressure temperature =
     cond (outside temperature (identity .tmin) (identity .tmax)) 1 0
     + cond (outside pressure (identity .pmin) (identity .pmax)) 2 0
 
-unfoldable pub trimmed : Trim → (pressure : ℤ) → ℤ
-trimmed trim pressure = trim .zero +ℤ rounded (pos (trim .span) *ℤ pressure) (2 ^ 28)
+unfoldable pub trimmedBy : Trim → (pressure : ℤ) → ℤ
+trimmedBy trim pressure = trim .zero +ℤ rounded (pos (trim .span) *ℤ pressure) (2 ^ 28)
 
 -- a zero beyond 2^40 is no right trim, which a verdict has told before
 unfoldable pub shownBy : Trimming → (pressure temperature : ℤ) → (mark : ℕ) → Answer
 shownBy Untrimmed pressure temperature mark = Shown (record { pressure = pressure; temperature = temperature; unit = 1; mark = mark })
 shownBy (By trim) pressure temperature mark =
     cond (leb (natAbs (trim .zero)) (2 ^ 40))
-    (Shown (record { pressure = trimmed trim pressure; temperature = temperature; unit = trim .unit; mark = mark }))
+    (Shown (record { pressure = trimmedBy trim pressure; temperature = temperature; unit = trim .unit; mark = mark }))
     (Refused (refusal 15 0))
 
 -- nothing is shown after a refusal

@@ -10,6 +10,9 @@ mod frequency;
 // The sum of a set.
 mod polynomial;
 
+// Mark and trim.
+mod shown;
+
 // Cycles of a gauge's sensor.
 pub struct SensorCycles(pub u64);
 

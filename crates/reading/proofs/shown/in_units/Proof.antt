@@ -1,0 +1,21 @@
+use mir.Syntax.{w32, w64}
+use mir.Val.{SFits}
+use mir.Facts.{toZ-ofZ, sfits-widen}
+use Rattle.reading.specs.MeasuredLaws.{units-fit}
+use Rattle.reading.proofs.shown.in_units.Statement.{statement}
+use Rattle.reading.proofs.shown.in_units.Tie as tie
+
+wide : (c : tie.Start) → SFits w64 (c .args .whole)
+wide c = sfits-widen {w = w32} tt (c .fits .whole)
+
+cast-result : tie.Need-cast-result
+cast-result c = rw (toZ-ofZ (c .fits .whole)) (wide c)
+
+mul-result : tie.Need-mul-result
+mul-result c = rw (toZ-ofZ (c .fits .whole), toZ-ofZ (wide c)) (units-fit (c .args .whole) (c .fits .whole))
+
+returns : tie.Need-returns
+returns c = rw (toZ-ofZ (c .fits .whole), toZ-ofZ (wide c)) (toZ-ofZ (units-fit (c .args .whole) (c .fits .whole)))
+
+pub in-units-spec : {M : Type 1} → statement M
+in-units-spec = tie.close (tie.spec cast-result mul-result returns)
