@@ -13,6 +13,11 @@ mod polynomial;
 // Mark and trim.
 mod shown;
 
+// The whole way.
+mod measure;
+
+pub use measure::measured;
+
 // Cycles of a gauge's sensor.
 pub struct SensorCycles(pub u64);
 
