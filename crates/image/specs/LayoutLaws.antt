@@ -1,5 +1,7 @@
 -- What each check of the layout says: from the facts to its verdict, and back.
-use Prim.Native.Nat.{ℕ, suc, _+_, _%_, _≤_, _<_}
+use Prim.Native.Nat.{ℕ, zero, suc, _+_, _%_, _≤_, _<_}
+use native.Mathlib.Nat.{add-zero, zero-add}
+use native.Mathlib.Omega.{arith}
 use mathlib.Core.Bool.{Bool, true, _&&_}
 use mathlib.Core.List.{List}
 use mathlib.Core.Path.{_≡_}
@@ -11,7 +13,7 @@ use Rattle.laws.specs.Sums.{total}
 use Rattle.numbers.specs.Fields.{numberAt}
 use Rattle.refusals.specs.declared.Verdict.the-variants.{Accepted}
 use Rattle.refusals.specs.Refusals.{ask}
-use Rattle.refusals.specs.VerdictLaws.{ask-passes, asked, first-passed, next-passed}
+use Rattle.refusals.specs.VerdictLaws.{asked, first-passed, next-passed}
 use Rattle.image.specs.Layout.{lineCount, linePlace, kindAt, zeroAt, offsetAt, lengthAt, sumAt, bodyAt, startVerdict, countVerdict, lineRight, linesVerdict, sumsVerdict, layoutVerdict}
 
 -- each of three tests
@@ -78,7 +80,7 @@ unfolding linesVerdict
 line-passed image left i previous offset e =
     record {
       right = passed-right image i previous offset (asked _ 7 i (first-passed (ask (lineRight image i previous offset) 7 i) _ e));
-      others = next-passed (ask (lineRight image i previous offset) 7 i) _ e
+      others = next-passed (ask (lineRight image i previous offset) 7 i) _ e;
     }
 
 pub lines-ended : (image : List ℕ) (i previous offset : ℕ) → linesVerdict image 0 i previous offset ≡ Accepted → offset ≡ length image
@@ -95,7 +97,7 @@ sum-passed image left i e =
     let sum = total (bodyAt image i) % 65536 in
     record {
       right = eqb-true sum (sumAt image i) (asked _ 8 i (first-passed (ask (eqb sum (sumAt image i)) 8 i) _ e));
-      others = next-passed (ask (eqb sum (sumAt image i)) 8 i) _ e
+      others = next-passed (ask (eqb sum (sumAt image i)) 8 i) _ e;
     }
 
 -- ---- the whole layout
@@ -120,5 +122,31 @@ module _ (image : List ℕ) where
         started = start-passed image (first-passed (startVerdict image) _ e);
         counted = count-passed image (first-passed (countVerdict image) _ counts);
         lines = first-passed (linesVerdict image (lineCount image) 0 0 (linePlace (lineCount image))) _ lines;
-        sums = next-passed (linesVerdict image (lineCount image) 0 0 (linePlace (lineCount image))) _ lines
+        sums = next-passed (linesVerdict image (lineCount image) 0 0 (linePlace (lineCount image))) _ lines;
       }
+
+-- ---- where the bodies stand, in a good layout
+
+-- the lines left start no body past the end
+offset-within : (image : List ℕ) (left i previous offset : ℕ) → linesVerdict image left i previous offset ≡ Accepted → offset ≤ length image
+offset-within image zero i previous offset e = omega (arith, lines-ended image i previous offset e)
+offset-within image (suc left) i previous offset e =
+    let p = line-passed image left i previous offset e in
+    omega (arith, offset-within image left (i + 1) (kindAt image i) (offset + lengthAt image i) (p .others))
+
+-- nor end one there
+bodies-within : (image : List ℕ) (left i previous offset : ℕ) → linesVerdict image left i previous offset ≡ Accepted → (k : ℕ) → k < left
+    → offsetAt image (i + k) + lengthAt image (i + k) ≤ length image
+bodies-within image zero i previous offset e k h = absurd (omega arith)
+bodies-within image (suc left) i previous offset e zero h =
+    let p = line-passed image left i previous offset e in
+    let w = offset-within image left (i + 1) (kindAt image i) (offset + lengthAt image i) (p .others) in
+    rw (add-zero i, p .right .starts) w
+bodies-within image (suc left) i previous offset e (suc k) h =
+    let p = line-passed image left i previous offset e in
+    let same : i + 1 + k ≡ i + suc k = omega arith in
+    rw same at (bodies-within image left (i + 1) (kindAt image i) (offset + lengthAt image i) (p .others) k (omega arith))
+
+pub body-within : (image : List ℕ) → layoutVerdict image ≡ Accepted → (i : ℕ) → i < lineCount image → offsetAt image i + lengthAt image i ≤ length image
+body-within image e i h =
+    rw (zero-add i) at (bodies-within image (lineCount image) 0 0 (linePlace (lineCount image)) (layout-passed image e .lines) i h)

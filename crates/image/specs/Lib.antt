@@ -5,3 +5,4 @@ pub mod LineLaws
 pub mod LayoutLaws
 pub mod RoundTrip
 pub mod Back
+pub mod FindLaws

@@ -34,7 +34,7 @@ line-says image rest i kind offset size sum e =
       zero-is = field 1 image i 1 e ∙ omega arith;
       offset-is = field 2 image i 2 e ∙ omega arith;
       size-is = field 2 image i 4 e ∙ omega arith;
-      sum-is = field 2 image i 6 e ∙ omega arith
+      sum-is = field 2 image i 6 e ∙ omega arith;
     }
 
 -- ---- the bytes of the fields
@@ -57,5 +57,11 @@ pub line-spelled : (image : List ℕ) (i : ℕ) → Bytes image → linePlace (i
 line-spelled image i b h z =
     let a = linePlace i in
     drop-two image a (omega arith)
-    ∙ rw (← byte-at image a, ← byte-at image (a + 1), z, two-spelled image (a + 2) (a + 4) b (omega arith) (omega arith),
-    two-spelled image (a + 4) (a + 6) b (omega arith) (omega arith), two-spelled image (a + 6) (linePlace (i + 1)) b (omega arith) (omega arith))
+    ∙ rw (
+      ← byte-at image a,
+      ← byte-at image (a + 1),
+      z,
+      two-spelled image (a + 2) (a + 4) b (omega arith) (omega arith),
+      two-spelled image (a + 4) (a + 6) b (omega arith) (omega arith),
+      two-spelled image (a + 6) (linePlace (i + 1)) b (omega arith) (omega arith),
+    )

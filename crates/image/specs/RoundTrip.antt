@@ -1,19 +1,19 @@
 -- From sections to their image and back: the image of fit sections has a good layout, and its sections are those given.
-use Prim.Native.Nat.{ℕ, suc, _+_, _-_, _*_, _%_, _≤_, _<_}
+use Prim.Native.Nat.{ℕ, _+_, _*_, _/_, _%_, _≤_, _<_}
 use native.Mathlib.Nat.{zero-add}
 use native.Mathlib.Omega.{arith}
-use mathlib.Core.List.{List, [], _∷_, _++_, append-assoc}
-use mathlib.Core.Path.{_≡_, refl, sym, ap, ap₂, _∙_}
-use lib.ListN.{length, take, drop, length-append, length-drop}
-use lib.Seq.{drop-drop, drop-at, take-append-seam, drop-append-seam, drop-length}
-use borrow.Author.Tests.{le-leb, eq-eqb}
+use mathlib.Core.List.{List, [], _∷_, _++_}
+use mathlib.Core.Path.{_≡_, refl, sym, ap, _∙_}
+use lib.ListN.{length, drop, length-append, length-drop}
+use lib.Seq.{drop-drop, drop-at, take-append-seam, drop-append-seam}
+use borrow.Author.Tests.{eq-eqb}
 use Rattle.laws.specs.Bytes.{Bytes, bytes-nil, bytes-cons, bytes-append}
 use Rattle.laws.specs.Sums.{total}
 use Rattle.numbers.specs.Fields.{littleEndian, numberAt}
 use Rattle.refusals.specs.declared.Verdict.the-variants.{Accepted}
 use Rattle.refusals.specs.VerdictLaws.{ask-passes}
-use Rattle.image.specs.Layout.{lineCount, linePlace, kindAt, bodyAt, lengthAt, offsetAt, sumAt, startVerdict, countVerdict, linesVerdict, sumsVerdict, layoutVerdict}
-use Rattle.image.specs.Sections.{Section, sectionsFrom, sections, contentsLine, contentsFrom, bodiesOf, imageOf, Rising, Fit}
+use Rattle.image.specs.Layout.{lineCount, linePlace, kindAt, bodyAt, linesVerdict, sumsVerdict, layoutVerdict}
+use Rattle.image.specs.Sections.{Section, sectionsFrom, sections, twoBytes, contentsFrom, bodiesOf, imageOf, Rising, Fit}
 use Rattle.image.specs.LineLaws.{Says, line-says}
 use Rattle.image.specs.LayoutLaws.{right-passes, layout-passes}
 
@@ -45,7 +45,7 @@ module _ (image : List ℕ) (i offset : ℕ) (s : Section) (ss : List Section) (
       record {
         contents = rw (next, ← drop-drop 8 (linePlace i) image, h .contents, last);
         bodies = rw (← drop-drop (length (s .body)) offset image, h .bodies) (drop-append-seam (s .body) (bodiesOf ss));
-        within = omega (arith, h .within, length-drop offset image, length-append (s .body) (bodiesOf ss))
+        within = omega (arith, h .within, length-drop offset image, length-append (s .body) (bodiesOf ss));
       }
 
 -- ---- what the checks say, and what is read
@@ -54,8 +54,11 @@ sections-held : (image : List ℕ) (i offset : ℕ) (ss : List Section) → Hold
 unfolding sectionsFrom
 sections-held image i offset [] h = refl
 sections-held image i offset (s ∷ ss) h =
-    rw (first-says image i offset s ss h .kind-is, first-body image i offset s ss h,
-    sections-held image (i + 1) (offset + length (s .body)) ss (others image i offset s ss h))
+    rw (
+      first-says image i offset s ss h .kind-is,
+      first-body image i offset s ss h,
+      sections-held image (i + 1) (offset + length (s .body)) ss (others image i offset s ss h),
+    )
 
 lines-held : (image : List ℕ) (i previous offset : ℕ) (ss : List Section) → Rising previous ss → Holds image i offset ss
     → linesVerdict image (length ss) i previous offset ≡ Accepted
@@ -110,7 +113,7 @@ module _ (ss : List Section) where
       record {
         contents = rw (zero-add (length ss), image-bodies);
         bodies = image-bodies;
-        within = omega (arith, image-length)
+        within = omega (arith, image-length);
       }
 
   -- whatever the sections are, their image gives them back
@@ -127,9 +130,37 @@ module _ (ss : List Section) where
         started = record { enough = omega arith; most = omega (arith, fit .room); marked = image-marked };
         counted = record { some = omega (arith, fit .some); few = omega (arith, fit .few); room = omega arith };
         lines = rw image-count (lines-held (imageOf ss) 0 0 (linePlace (length ss)) ss (fit .rising) image-holds);
-        sums = rw image-count (sums-held (imageOf ss) 0 (linePlace (length ss)) ss image-holds)
+        sums = rw image-count (sums-held (imageOf ss) 0 (linePlace (length ss)) ss image-holds);
       })
 
--- so no two lists of sections have the same image
+-- ---- the image of bytes is one of bytes
+
+bytes-two : (n : ℕ) (l : List ℕ) → n < 65536 → Bytes l → Bytes (twoBytes n ++ l)
+bytes-two n l h b = bytes-cons (n % 256) (n / 256 ∷ l) (omega arith) (bytes-cons (n / 256) l (omega arith) b)
+
+bytes-contents : (offset previous : ℕ) (ss : List Section) → Rising previous ss → offset + length (bodiesOf ss) < 65536 → Bytes (contentsFrom offset ss)
+unfolding contentsFrom bodiesOf
+bytes-contents offset previous [] r h = bytes-nil
+bytes-contents offset previous (s ∷ ss) r h =
+    let size = length (s .body) in
+    let sum = total (s .body) % 65536 in
+    let long = length-append (s .body) (bodiesOf ss) in
+    let rest = contentsFrom (offset + size) ss in
+    bytes-cons (s .kind) (0 ∷ twoBytes offset ++ twoBytes size ++ twoBytes sum ++ rest) (omega (arith, r .1))
+    (bytes-cons 0 (twoBytes offset ++ twoBytes size ++ twoBytes sum ++ rest) (omega arith)
+    (bytes-two offset (twoBytes size ++ twoBytes sum ++ rest) (omega arith)
+    (bytes-two size (twoBytes sum ++ rest) (omega arith)
+    (bytes-two sum rest (omega arith) (bytes-contents (offset + size) (s .kind) ss (r .2) (omega arith))))))
+
+pub image-bytes : (ss : List Section) → Fit ss → Bytes (bodiesOf ss) → Bytes (imageOf ss)
+unfolding imageOf
+image-bytes ss fit b =
+    bytes-append (0x51 ∷ length ss ∷ contentsFrom (linePlace (length ss)) ss) (bodiesOf ss)
+    (bytes-cons 0x51 (length ss ∷ contentsFrom (linePlace (length ss)) ss) (omega arith)
+    (bytes-cons (length ss) (contentsFrom (linePlace (length ss)) ss) (omega (arith, fit .few))
+    (bytes-contents (linePlace (length ss)) 0 ss (fit .rising) (omega (arith, fit .room)))))
+    b
+
+-- ---- so no two lists of sections have the same image
 pub same-image : (ss ts : List Section) → imageOf ss ≡ imageOf ts → ss ≡ ts
 same-image ss ts e = sym (sections-of-image ss) ∙ ap sections e ∙ sections-of-image ts
