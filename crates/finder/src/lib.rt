@@ -57,8 +57,7 @@ pub fn place_of(image: &[u8], kind: u32) -> Place
 pub fn find(image: &[u8], kind: u32) -> &[u8]
     ensures { λ r. ⌜ Found (image .entry) r kind ⌝ }
 {
-    let place = place_of(image, kind);
-    part_at(image, place)
+    part_at(image, place_of(image, kind))
 }
 
 // Tells an absent kind from an empty body.

@@ -101,7 +101,7 @@ pub fn sums(image: &[u8]) -> Verdict
     ensures { λ r. ⌜ r ≡ allSums (now (image .entry)) ⌝ }
 {
     let count = fields::number1(image, 1) as usize;
-    let mut i: usize = 0;
+    let mut i = 0;
     while i < count {
         if !sum_right(image, i) {
             return refused(8, i as u64);
