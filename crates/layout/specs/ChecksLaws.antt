@@ -88,12 +88,14 @@ pub record Judging (image : List ℕ) (count i previous offset : ℕ) : Type 0 w
 pub judging-first : (image : List ℕ) (count : ℕ) → count ≡ lineCount image → count < 256 → Judging image count 0 0 (2 + 8 * count)
 judging-first image count c h = record { rest = rw (sub-zero count, c); few = h; passed = omega arith; near = omega arith }
 
-module _ (image : List ℕ) (count i previous offset : ℕ) (right : Bool) (t : right ≡ lineRight image i previous offset) (j : Judging image count i previous offset) (more : i < count) where
+module _ (image : List ℕ) (count i previous offset : ℕ) (right : Bool) (t : right ≡ lineRight image i previous offset)
+    (j : Judging image count i previous offset) (more : i < count) where
   pub lines-stop : not right ≡ true → (r : Verdict) → r ≡ Refused (refusal 7 i) → r ≡ allLines image
   unfolding linesVerdict
   lines-stop f r e = e ∙ rw (one-left count i more, ← t, not-true right f) at (j .rest)
 
-  pub lines-more : not right ≡ false → (kind size : ℕ) → kind ≡ kindAt image i → size ≡ lengthAt image i → size < 65536 → Judging image count (i + 1) kind (offset + size)
+  pub lines-more : not right ≡ false → (kind size : ℕ) → kind ≡ kindAt image i → size ≡ lengthAt image i → size < 65536
+      → Judging image count (i + 1) kind (offset + size)
   unfolding linesVerdict
   lines-more f kind size k l small =
       record {
@@ -118,8 +120,8 @@ module _ (image : List ℕ) (count i previous offset : ℕ) (j : Judging image c
 
 -- ---- 8
 
-pub sum-decides : (image body : List ℕ) (i start size sum stated : ℕ) → body ≡ take size (drop start image) → start ≡ offsetAt image i → size ≡ lengthAt image i
-    → sum ≡ total body % 65536 → stated ≡ sumAt image i → eqb sum stated ≡ sumRight image i
+pub sum-decides : (image body : List ℕ) (i start size sum stated : ℕ) → body ≡ take size (drop start image)
+    → start ≡ offsetAt image i → size ≡ lengthAt image i → sum ≡ total body % 65536 → stated ≡ sumAt image i → eqb sum stated ≡ sumRight image i
 sum-decides image body i start size sum stated b f l s t = rw (s, t, b, f, l)
 
 -- i bodies have the right sum

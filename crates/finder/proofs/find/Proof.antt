@@ -1,4 +1,4 @@
-use Rattle.finder.specs.PlacesLaws.{part-found}
+use Rattle.finder.specs.FinderLaws.{part-found}
 use borrow.Author.Needs.{needs}
 use Rattle.finder.proofs.find.Statement.{statement}
 use Rattle.finder.proofs.find.Tie as tie

@@ -1,4 +1,4 @@
-use Rattle.finder.specs.PlacesLaws.{has-it, has-none}
+use Rattle.finder.specs.FinderLaws.{has-it, has-none}
 use borrow.Author.Needs.{needs}
 use Rattle.finder.proofs.has.Statement.{statement}
 use Rattle.finder.proofs.has.Tie as tie

@@ -1,4 +1,4 @@
-use Rattle.finder.specs.PlacesLaws.{part-there, part-nowhere}
+use Rattle.finder.specs.FinderLaws.{part-there, part-nowhere}
 use borrow.Author.Needs.{needs}
 use Rattle.finder.proofs.part_at.Statement.{statement}
 use Rattle.finder.proofs.part_at.Tie as tie

@@ -1,4 +1,4 @@
-use Rattle.finder.specs.PlacesLaws.{place-good, place-ill}
+use Rattle.finder.specs.FinderLaws.{place-good, place-ill}
 use borrow.Author.Needs.{needs}
 use Rattle.finder.proofs.place_of.Statement.{statement}
 use Rattle.finder.proofs.place_of.Tie as tie

@@ -1,5 +1,5 @@
 use Prim.Native.Nat.{_-_}
-use Rattle.finder.specs.PlacesLaws.{Looking, looking-first, stated-here, looking-more, stated-nowhere}
+use Rattle.finder.specs.FinderLaws.{Looking, looking-first, stated-here, looking-more, stated-nowhere}
 use borrow.Author.Needs.{needs}
 use Rattle.finder.proofs.stated.Statement.{statement}
 use Rattle.finder.proofs.stated.Tie as tie
