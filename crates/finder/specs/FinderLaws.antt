@@ -1,0 +1,91 @@
+-- One law for each way out of the finder's functions.
+use mathlib.Core.Bool.{true, false}
+use mathlib.Core.List.{List, []}
+use mathlib.Core.Path.{_≡_, sym, _∙_}
+use Prim.Native.Nat.{ℕ, _+_, _-_, _≤_, _<_, min}
+use native.Mathlib.Nat.{sub-zero}
+use native.Mathlib.Omega.{arith}
+use borrow.Author.Tests.{eq-eqb, ne-eqb}
+use lib.ListN.{length, take, drop}
+use denote.Ref.{RefT, now}
+use Rattle.numbers.specs.Slices.{IsPart}
+use Rattle.refusals.specs.declared.Refusal.{Refusal}
+use Rattle.refusals.specs.declared.Verdict.{Verdict}
+use Rattle.refusals.specs.declared.Verdict.the-variants.{Accepted, Refused}
+use Rattle.image.specs.Layout.{lineCount, kindAt, offsetAt, lengthAt, layoutVerdict}
+use Rattle.image.specs.LayoutLaws.{one-left, none-left}
+use Rattle.image.specs.Find.{found, foundOffset, isThere, orElse, Found}
+use Rattle.finder.specs.declared.Place.{Place}
+use Rattle.finder.specs.declared.Place.the-variants.{At, Nowhere}
+use Rattle.finder.specs.Places.{statedFrom, statedPlace, placed, startOf, lengthOf}
+use Rattle.finder.specs.PlacesLaws.{bodySaid, Places, stated-places, ill-places, only-place, found-places}
+
+-- ---- the loop over the lines, i of them passed
+
+pub record Looking (image : List ℕ) (kind count i : ℕ) : Type 0 where
+  pub rest : statedFrom image (count - i) i kind ≡ statedPlace image kind
+  pub few : count < 256
+
+pub looking-first : (image : List ℕ) (kind count : ℕ) → count ≡ lineCount image → count < 256 → Looking image kind count 0
+looking-first image kind count c h = record { rest = rw (sub-zero count, c); few = h }
+
+module _ (image : List ℕ) (kind count i : ℕ) (l : Looking image kind count i) where
+  pub stated-here : (k offset size : ℕ) → i < count → k ≡ kindAt image i → k ≡ kind → offset ≡ offsetAt image i → size ≡ lengthAt image i
+      → At offset size ≡ statedPlace image kind
+  unfolding statedFrom
+  stated-here k offset size more e f o s = rw (o, s) (rw (one-left count i more, eq-eqb kind (kindAt image i) (sym f ∙ e)) at (l .rest))
+
+  pub looking-more : (k : ℕ) → i < count → k ≡ kindAt image i → (k ≡ kind → ⊥) → Looking image kind count (i + 1)
+  unfolding statedFrom
+  looking-more k more e n =
+      record { rest = rw (one-left count i more, ne-eqb kind (kindAt image i) (λ q. n (e ∙ sym q))) at (l .rest); few = l .few }
+
+  pub stated-nowhere : count ≤ i → Nowhere ≡ statedPlace image kind
+  unfolding statedFrom
+  stated-nowhere end = rw (none-left count i end) at (l .rest)
+
+-- ---- places, parts, and yes or no
+
+module _ (image r : RefT (List ℕ)) (place : Place) where
+  pub part-there : (offset size : ℕ) → place ≡ At offset size → IsPart image r offset size → IsPart image r (startOf place) (lengthOf place)
+  part-there offset size e p = rw e p
+
+  pub part-nowhere : place ≡ Nowhere → IsPart image r 0 0 → IsPart image r (startOf place) (lengthOf place)
+  part-nowhere e p = rw e p
+
+module _ (image : List ℕ) (kind : ℕ) (verdict : Verdict) (v : verdict ≡ layoutVerdict image) where
+  pub place-good : (place : Place) → verdict ≡ Accepted → place ≡ statedPlace image kind → place ≡ placed (foundOffset image kind) (found image kind)
+  place-good place e p = p ∙ only-place image kind (statedPlace image kind) (stated-places image kind (sym v ∙ e))
+
+  pub place-ill : (q : Refusal) → verdict ≡ Refused q → Nowhere ≡ placed (foundOffset image kind) (found image kind)
+  place-ill q e = only-place image kind Nowhere (ill-places image kind q (sym v ∙ e))
+
+part-holds : (image : List ℕ) (kind : ℕ) (place : Place) → Places image kind place
+    → take (lengthOf place) (drop (startOf place) image) ≡ orElse [] (found image kind)
+part-holds image kind (At offset size) p = rw (p .body-is)
+part-holds image kind Nowhere p = rw (p .body-is)
+
+part-starts : (image : List ℕ) (kind : ℕ) (place : Place) → Places image kind place
+    → min (startOf place) (length image) ≡ orElse 0 (foundOffset image kind)
+part-starts image kind (At offset size) p = rw (p .offset-is) (omega (arith, p .inside))
+part-starts image kind Nowhere p = rw (p .offset-is) (omega arith)
+
+pub part-found : (image r : RefT (List ℕ)) (kind : ℕ) (place : Place) → place ≡ placed (foundOffset (now image) kind) (found (now image) kind)
+    → IsPart image r (startOf place) (lengthOf place) → Found image r kind
+part-found image r kind place e p =
+    let there = found-places (now image) kind place e in
+    record {
+      holds = p .holds ∙ part-holds (now image) kind place there;
+      block = p .block;
+      place = p .place ∙ rw (part-starts (now image) kind place there);
+    }
+
+module _ (image : List ℕ) (kind : ℕ) (place : Place) (p : place ≡ placed (foundOffset image kind) (found image kind)) where
+  is-there : (said : Place) → place ≡ said → isThere (bodySaid image said) ≡ isThere (found image kind)
+  is-there said e = rw (found-places image kind place p .body-is, e)
+
+  pub has-it : (offset size : ℕ) → place ≡ At offset size → true ≡ isThere (found image kind)
+  has-it offset size e = is-there (At offset size) e
+
+  pub has-none : place ≡ Nowhere → false ≡ isThere (found image kind)
+  has-none e = is-there Nowhere e

@@ -1,0 +1,72 @@
+// The body of a kind in an image: the caller's own memory, or numbers that say where it stands.
+ghost use mathlib.Core.Path.{_≡_};
+ghost use Rattle.numbers.specs.Slices.{IsPart};
+ghost use Rattle.image.specs.Find.{found, foundOffset, isThere, Found};
+ghost use Rattle.finder.specs.Places.{statedPlace, placed, startOf, lengthOf};
+use numbers::fields;
+use numbers::slices;
+use refusals::Verdict;
+
+// Where a body stands: its offset in the image, and its length.
+pub enum Place {
+    At(usize, usize),
+    Nowhere,
+}
+
+// What the first contents line of a kind says, whatever the layout: whoever has judged an image looks for each kind here, and
+// judges it once.
+pub fn stated(image: &[u8], kind: u32) -> Place
+    ensures { λ r. ⌜ r ≡ statedPlace (now (image .entry)) kind ⌝ }
+{
+    let count = fields::number1(image, 1) as usize;
+    let mut i: usize = 0;
+    while i < count {
+        let place = 2 + 8 * i;
+        if fields::number1(image, place) as u32 == kind {
+            let offset = fields::number2(image, place + 2) as usize;
+            let length = fields::number2(image, place + 4) as usize;
+            return Place::At(offset, length);
+        }
+        i += 1;
+    }
+    Place::Nowhere
+}
+
+// The part of the image at a place; where there is none, the empty part at the image's start.
+pub fn part_at(image: &[u8], place: Place) -> &[u8]
+    ensures { λ r. ⌜ IsPart (image .entry) r (startOf place) (lengthOf place) ⌝ }
+{
+    match place {
+        Place::At(offset, length) => slices::part(image, offset, length),
+        Place::Nowhere => slices::part(image, 0, 0),
+    }
+}
+
+// Nowhere in an ill-laid image.
+pub fn place_of(image: &[u8], kind: u32) -> Place
+    ensures { λ r. ⌜ r ≡ placed (foundOffset (now (image .entry)) kind) (found (now (image .entry)) kind) ⌝ }
+{
+    let verdict = layout::layout(image);
+    let Verdict::Accepted = verdict else {
+        return Place::Nowhere;
+    };
+    stated(image, kind)
+}
+
+// The body itself; the empty part at the image's start for an ill-laid image or an absent kind.
+pub fn find(image: &[u8], kind: u32) -> &[u8]
+    ensures { λ r. ⌜ Found (image .entry) r kind ⌝ }
+{
+    part_at(image, place_of(image, kind))
+}
+
+// Tells an absent kind from an empty body.
+pub fn has(image: &[u8], kind: u32) -> bool
+    ensures { λ r. ⌜ r ≡ isThere (found (now (image .entry)) kind) ⌝ }
+{
+    let place = place_of(image, kind);
+    match place {
+        Place::At(_, _) => true,
+        Place::Nowhere => false,
+    }
+}

@@ -1,0 +1,112 @@
+ghost use mathlib.Core.Path.{_≡_};
+ghost use Prim.Native.Nat.{_<_};
+ghost use Rattle.refusals.specs.Refusals.{refusal};
+ghost use Rattle.image.specs.Layout.{startVerdict, countVerdict, lineRight};
+ghost use Rattle.layout.specs.Checks.{allLines, sumRight, allSums};
+use numbers::fields;
+use numbers::slices;
+use refusals::Refusal;
+use refusals::Verdict;
+
+fn refused(number: u32, detail: u64) -> Verdict
+    ensures { λ r. ⌜ r ≡ Verdict.Refused (refusal number detail) ⌝ }
+{
+    Verdict::Refused(Refusal { number, detail })
+}
+
+// Refusal 5.
+pub fn start(image: &[u8]) -> Verdict
+    ensures { λ r. ⌜ r ≡ startVerdict (now (image .entry)) ⌝ }
+{
+    if image.len() < 2 {
+        return refused(5, 0);
+    }
+    if 4096 < image.len() {
+        return refused(5, 0);
+    }
+    if fields::number1(image, 0) != 0x51 {
+        return refused(5, 0);
+    }
+    Verdict::Accepted
+}
+
+// Refusal 6.
+pub fn count(image: &[u8]) -> Verdict
+    ensures { λ r. ⌜ r ≡ countVerdict (now (image .entry)) ⌝ }
+{
+    let count = fields::number1(image, 1) as usize;
+    if count < 1 {
+        return refused(6, 0);
+    }
+    if 16 < count {
+        return refused(6, 0);
+    }
+    if image.len() < 2 + 8 * count {
+        return refused(6, 0);
+    }
+    Verdict::Accepted
+}
+
+fn line_right(image: &[u8], i: usize, previous: u8, offset: usize) -> bool
+    requires { ⌜ i < 256 ⌝ }
+    ensures { λ r. ⌜ r ≡ lineRight (now (image .entry)) i previous offset ⌝ }
+{
+    let place = 2 + 8 * i;
+    if fields::number1(image, place) <= previous {
+        return false;
+    }
+    if fields::number1(image, place + 1) != 0 {
+        return false;
+    }
+    fields::number2(image, place + 2) as usize == offset
+}
+
+// Refusal 7.
+pub fn lines(image: &[u8]) -> Verdict
+    ensures { λ r. ⌜ r ≡ allLines (now (image .entry)) ⌝ }
+{
+    let count = fields::number1(image, 1) as usize;
+    let mut i: usize = 0;
+    let mut previous: u8 = 0;
+    let mut offset = 2 + 8 * count;
+    while i < count {
+        if !line_right(image, i, previous, offset) {
+            return refused(7, i as u64);
+        }
+        let place = 2 + 8 * i;
+        previous = fields::number1(image, place);
+        offset += fields::number2(image, place + 4) as usize;
+        i += 1;
+    }
+    if offset != image.len() {
+        return refused(7, count as u64);
+    }
+    Verdict::Accepted
+}
+
+// The body goes to its sum as the part of the image where it stands.
+fn sum_right(image: &[u8], i: usize) -> bool
+    requires { ⌜ i < 256 ⌝ }
+    ensures { λ r. ⌜ r ≡ sumRight (now (image .entry)) i ⌝ }
+{
+    let place = 2 + 8 * i;
+    let offset = fields::number2(image, place + 2) as usize;
+    let length = fields::number2(image, place + 4) as usize;
+    let body = slices::part(image, offset, length);
+    slices::byte_sum(body) == fields::number2(image, place + 6)
+}
+
+// Refusal 8.
+pub fn sums(image: &[u8]) -> Verdict
+    ensures { λ r. ⌜ r ≡ allSums (now (image .entry)) ⌝ }
+{
+    let count = fields::number1(image, 1) as usize;
+    let mut i = 0;
+    while i < count {
+        if !sum_right(image, i) {
+            return refused(8, i as u64);
+        }
+        i += 1;
+    }
+    Verdict::Accepted
+}
