@@ -1,0 +1,4 @@
+pub mod Levels
+pub mod Verdict
+pub mod Reading
+pub mod Load
