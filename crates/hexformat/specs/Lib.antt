@@ -1,0 +1,5 @@
+pub mod Format
+pub mod Faults
+pub mod SpelledLaws
+pub mod ReadingLaws
+pub mod JudgedLaws

@@ -1,0 +1,118 @@
+-- The reader at a line: how the characters of a line are gathered, and what it makes of a record.
+use mathlib.Core.Path.{_≡_, refl, sym, ap, _∙_, subst}
+use mathlib.Core.Bool.{Bool, true, false}
+use mathlib.Core.List.{List, [], _∷_, _++_, append-nil, append-assoc}
+use Prim.Native.Nat.{ℕ, zero, suc, _+_, _-_, _*_, _%_, _/_, _≤_, _<_}
+use native.Mathlib.Omega.{arith}
+use lib.Dec.{eqb}
+use lib.ListN.{length, take, getD, length-append, List·getD-eq-default}
+use lib.Seq.{getD-append-seam, take-append-seam}
+use borrow.Author.Tests.{eq-eqb, ne-eqb, eqb-true}
+use Rattle.laws.specs.Cases.{split}
+use Rattle.laws.specs.Sums.{total}
+use Rattle.refusals.specs.Refusals.{Outcome}
+use Rattle.hextext.specs.Record.{digit, allDigits, bytesOf, recordBytes, dataOf, formed, summed, typed, judge}
+use Rattle.hextext.specs.RecordLaws.{digit-low, allDigits-at}
+use Rattle.hextext.specs.Text.{bare, after, reading}
+use Rattle.hextext.specs.declared.Record.{Record}
+use Rattle.hextext.specs.declared.Record.the-variants.{Data, End, Fault}
+use Rattle.hexformat.specs.Format.{Spelled, LineEnd, lf, crlf, Fields, bytes, Form, Balanced}
+use Rattle.hexformat.specs.Faults.{NoLineFeed}
+use Rattle.hexformat.specs.SpelledLaws.{spelled-digits, spelled-bytes, spelled-length}
+
+-- ---- gathering a line
+
+-- no place of the list holds c
+abbrev pub Without : ℕ → List ℕ → Type 0
+Without c l = (i : ℕ) → getD l i 0 ≡ c → ⊥
+
+pub without-append : (c : ℕ) (l m : List ℕ) → Without c l → Without c m → Without c (l ++ m)
+without-append c [] m v w i e = w i e
+without-append c (b ∷ l) m v w zero e = v 0 e
+without-append c (b ∷ l) m v w (suc i) e = without-append c l m (λ j. v (suc j)) w i e
+
+pub without-one : (c b : ℕ) → 0 < c → (b ≡ c → ⊥) → Without c (b ∷ [])
+without-one c b h n zero e = n e
+without-one c b h n (suc i) e = omega arith
+
+-- the reader at a line without LF inside
+pub reading-line : (room line : ℕ) (image passed l text : List ℕ) → NoLineFeed l → reading room line image passed (l ++ 10 ∷ text)
+    ≡ after (judge room (length image) (bare (passed ++ l))) line image text (reading room (line + 1) (image ++ dataOf (recordBytes (bare (passed ++ l)))) [] text)
+unfolding reading
+reading-line room line image passed [] text w = rw (append-nil passed)
+reading-line room line image passed (c ∷ l) text w =
+    let q : (passed ++ c ∷ []) ++ l ≡ passed ++ c ∷ l = append-assoc passed (c ∷ []) l in
+    rw (ne-eqb c 10 (w 0), ← q) (reading-line room line image (passed ++ c ∷ []) l text (λ i. w (suc i)))
+
+pub bare-without : (l : List ℕ) → Without 13 l → bare l ≡ l
+unfolding bare
+bare-without l w = rw (ne-eqb (getD l (length l - 1) 0) 13 (w (length l - 1)))
+
+pub bare-return : (l : List ℕ) → bare (l ++ 13 ∷ []) ≡ l
+unfolding bare
+bare-return l =
+    let q : length (l ++ 13 ∷ []) - 1 ≡ length l = omega (arith, length-append l (13 ∷ [])) in
+    rw (q, getD-append-seam l 13 [] 0, take-append-seam l (13 ∷ []))
+
+-- ---- a line in the form of a record
+
+-- digits have no control character among them
+digits-without : (l : List ℕ) (c : ℕ) → allDigits l ≡ true → 0 < c → c < 48 → Without c l
+digits-without l c e p q i w =
+    split (length l) i (λ h. omega (arith, List·getD-eq-default l 0 h))
+    (λ h. omega (arith, allDigits-at l i e h, digit-low (getD l i 0) (omega arith)))
+
+module _ {b l : List ℕ} (s : Spelled b l) where
+  pub colon-without : (c : ℕ) → 0 < c → c < 48 → Without c (58 ∷ l)
+  colon-without c p q zero e = omega arith
+  colon-without c p q (suc i) e = digits-without l c (spelled-digits s) p q i e
+
+  -- the reader at a colon, digits and a line end
+  reading-spelled : (room line : ℕ) (image text : List ℕ) {e : List ℕ} → LineEnd e → reading room line image [] ((58 ∷ l ++ e) ++ text)
+      ≡ after (judge room (length image) (58 ∷ l)) line image text (reading room (line + 1) (image ++ dataOf b) [] text)
+  unfolding recordBytes
+  reading-spelled room line image text lf =
+      rw (
+        append-assoc (58 ∷ l) (10 ∷ []) text,
+        reading-line room line image [] (58 ∷ l) text (colon-without 10 (omega arith) (omega arith)),
+        bare-without (58 ∷ l) (colon-without 13 (omega arith) (omega arith)),
+        spelled-bytes s,
+      )
+  reading-spelled room line image text crlf =
+      let q : (58 ∷ l ++ 13 ∷ 10 ∷ []) ++ text ≡ (58 ∷ l ++ 13 ∷ []) ++ 10 ∷ text = simp append-assoc in
+      let w : NoLineFeed (58 ∷ l ++ 13 ∷ []) =
+      without-append 10 (58 ∷ l) (13 ∷ []) (colon-without 10 (omega arith) (omega arith)) (without-one 10 13 (omega arith) (λ (e : 13 ≡ 10). omega arith)) in
+      rw (q, reading-line room line image [] (58 ∷ l ++ 13 ∷ []) text w, bare-return (58 ∷ l), spelled-bytes s)
+
+-- a record's line with its text after it
+module _ (r : Fields) where
+  length-bytes : length (bytes r) ≡ length (r .contents) + 5
+  length-bytes = omega (arith, length-append (r .contents) (r .checksum ∷ []))
+
+  pub data-bytes : dataOf (bytes r) ≡ r .contents
+  unfolding dataOf
+  data-bytes = take-append-seam (r .contents) (r .checksum ∷ [])
+
+  module _ {l : List ℕ} (s : Spelled (bytes r) l) where
+    pub formed-spelled : formed (58 ∷ l) ≡ true
+    unfolding formed
+    formed-spelled =
+        let q : length l ≡ (length (r .contents) + 5) * 2 = spelled-length s ∙ ap (λ (n : ℕ). n * 2) length-bytes in
+        rw (spelled-digits s, spelled-bytes s, eq-eqb (length l) ((length (r .contents) + 5) * 2) q)
+
+    pub judge-balanced : (room at : ℕ) → Balanced r → judge room at (58 ∷ l) ≡ typed room at (length (r .contents)) (r .address) (r .type)
+    unfolding judge summed recordBytes
+    judge-balanced room at z =
+        let q : r .address / 256 * 256 + r .address % 256 ≡ r .address = omega arith in
+        rw (formed-spelled, spelled-bytes s, eq-eqb (total (bytes r) % 256) 0 z, q)
+
+    pub judge-unbalanced : (room at : ℕ) → (Balanced r → ⊥) → judge room at (58 ∷ l) ≡ Fault 2
+    unfolding judge summed recordBytes
+    judge-unbalanced room at z = rw (formed-spelled, spelled-bytes s, ne-eqb (total (bytes r) % 256) 0 z)
+
+-- the reader at a record's line, judged as `judged`
+pub reading-form : (room line : ℕ) (image text : List ℕ) {r : Fields} {l : List ℕ} (f : Form r l) (judged : Record)
+    → judge room (length image) (58 ∷ f .digits) ≡ judged
+    → reading room line image [] (l ++ text) ≡ after judged line image text (reading room (line + 1) (image ++ r .contents) [] text)
+reading-form room line image text {r} f judged e =
+    rw (f .is, reading-spelled (f .spelled) room line image text (f .ends), e, data-bytes r)
