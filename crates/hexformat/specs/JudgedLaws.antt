@@ -54,6 +54,37 @@ pub typed-end : {r : Fields} → IsEnd r → (room at : ℕ) → judgedFields ro
 unfolding typed
 typed-end {r} d room at = rw (d .type-01, d .empty, d .address-0)
 
+-- a record is data from an address on, the end, or neither
+data Kind (at : ℕ) (r : Fields) : Type 0 where
+  isData : IsData at r → Kind at r
+  isEnd : IsEnd r → Kind at r
+  isNeither : (IsData at r → ⊥) → (IsEnd r → ⊥) → Kind at r
+
+kind-of : (at : ℕ) (r : Fields) → length (r .contents) ≤ 255 → Kind at r
+kind-of at r small =
+    let n : ℕ = length (r .contents) in
+    decide (eqb (r .type) 0 && (ltb 0 n && eqb (r .address) at))
+    (λ p.
+    let q = both-right (eqb (r .type) 0) (ltb 0 n && eqb (r .address) at) p in
+    isData (record {
+      type-00 = eqb-true (r .type) 0 (both-left (eqb (r .type) 0) (ltb 0 n && eqb (r .address) at) p);
+      some = ltb-true 0 n (both-left (ltb 0 n) (eqb (r .address) at) q);
+      at-most = small;
+      starts = eqb-true (r .address) at (both-right (ltb 0 n) (eqb (r .address) at) q);
+    }))
+    (λ p. decide (eqb (r .type) 1 && (eqb n 0 && eqb (r .address) 0))
+    (λ o.
+    let q = both-right (eqb (r .type) 1) (eqb n 0 && eqb (r .address) 0) o in
+    isEnd (record {
+      type-01 = eqb-true (r .type) 1 (both-left (eqb (r .type) 1) (eqb n 0 && eqb (r .address) 0) o);
+      empty = eqb-true n 0 (both-left (eqb n 0) (eqb (r .address) 0) q);
+      address-0 = eqb-true (r .address) 0 (both-right (eqb n 0) (eqb (r .address) 0) q);
+    }))
+    (λ o.
+    isNeither
+    (λ (d : IsData at r). never (sym p ∙ rw (d .type-00, lt-ltb 0 n (d .some), eq-eqb (r .address) at (d .starts))))
+    (λ (d : IsEnd r). never (sym o ∙ rw (d .type-01, d .empty, d .address-0)))))
+
 -- ---- the record of a formed line
 
 -- a list of n + 1 elements is n and one more
@@ -79,3 +110,139 @@ fields-bytes (n ∷ a ∷ c ∷ t ∷ l) e h =
     let high : (a * 256 + c) / 256 ≡ a = omega arith in
     let low : (a * 256 + c) % 256 ≡ c = omega arith in
     rw (length-take-le n l (omega arith), q, high, low) (ap (λ (m : List ℕ). n ∷ a ∷ c ∷ t ∷ m) (sym (snoc l n k)))
+
+record Seen (l : List ℕ) : Type 0 where
+  fields : Fields
+  digits : List ℕ
+  is : l ≡ 58 ∷ digits
+  spelled : Spelled (bytes fields) digits
+
+length-pairs : (l : List ℕ) (n : ℕ) → length l ≡ n * 2 → length (bytesOf l) ≡ n
+unfolding bytesOf
+length-pairs [] n e = omega arith
+length-pairs (a ∷ []) n e = absurd (omega arith)
+length-pairs (a ∷ b ∷ l) n e = omega (arith, length-pairs l (n - 1) (omega arith))
+
+formed-seen : (l : List ℕ) → formed l ≡ true → Seen l
+unfolding formed
+formed-seen [] e = never e
+formed-seen (c ∷ l) e =
+    let n : ℕ = countOf (bytesOf l) + 5 in
+    let rest = both-right (eqb c 58) (allDigits l && eqb (length l) (n * 2)) e in
+    let long : length l ≡ n * 2 = eqb-true (length l) (n * 2) (both-right (allDigits l) (eqb (length l) (n * 2)) rest) in
+    let s : Spelled (bytesOf l) l = spelled-of l n (both-left (allDigits l) (eqb (length l) (n * 2)) rest) long in
+    record {
+      fields = fieldsOf (bytesOf l);
+      digits = l;
+      is = ap (λ (b : ℕ). b ∷ l) (eqb-true c 58 (both-left (eqb c 58) (allDigits l && eqb (length l) (n * 2)) e));
+      spelled = rw (fields-bytes (bytesOf l) (length-pairs l n long) (spelled-small s 2)) s;
+    }
+
+-- ---- a line with its line end
+
+record Cut (l : List ℕ) : Type 0 where
+  rest : List ℕ
+  is : l ≡ bare l ++ rest
+  ends : LineEnd (rest ++ 10 ∷ [])
+
+cut : (l : List ℕ) → Cut l
+unfolding bare
+cut l =
+    decide (eqb (getD l (length l - 1) 0) 13)
+    (λ (q : eqb (getD l (length l - 1) 0) 13 ≡ true). record { rest = 13 ∷ []; is = rw q (with-return l (eqb-true _ 13 q)); ends = crlf })
+    (λ (q : eqb (getD l (length l - 1) 0) 13 ≡ false). record { rest = []; is = rw q (sym (append-nil l)); ends = lf })
+  where
+    with-return : (l : List ℕ) → getD l (length l - 1) 0 ≡ 13 → l ≡ take (length l - 1) l ++ 13 ∷ []
+    with-return [] e = absurd (omega arith)
+    with-return (a ∷ l) e = snoc (a ∷ l) (length (a ∷ l) - 1) (omega arith) ∙ ap (λ (c : ℕ). take (length (a ∷ l) - 1) (a ∷ l) ++ c ∷ []) e
+
+-- a formed line is in the form of a record
+form-of : (l : List ℕ) (s : Seen (bare l)) → Form (s .fields) (l ++ 10 ∷ [])
+form-of l s =
+    let k = cut l in
+    record {
+      digits = s .digits;
+      ending = k .rest ++ 10 ∷ [];
+      is = ap (λ (m : List ℕ). m ++ 10 ∷ []) (k .is) ∙ append-assoc (bare l) (k .rest) (10 ∷ []) ∙ ap (λ (m : List ℕ). m ++ (k .rest ++ 10 ∷ [])) (s .is);
+      spelled = s .spelled;
+      ends = k .ends;
+    }
+
+-- all but the last
+front : (l : List ℕ) (c : ℕ) → take (length (l ++ c ∷ []) - 1) (l ++ c ∷ []) ≡ l
+front l c =
+    let e : length (l ++ c ∷ []) - 1 ≡ length l = omega (arith, length-append l (c ∷ [])) in
+    rw e (take-append-seam l (c ∷ []))
+
+same-front : (l m : List ℕ) (c : ℕ) → l ++ c ∷ [] ≡ m ++ c ∷ [] → l ≡ m
+same-front l m c e = sym (front l c) ∙ ap (λ (k : List ℕ). take (length k - 1) k) e ∙ front m c
+
+-- and a line in the form of a record is formed
+form-formed : (l : List ℕ) (r : Fields) → Form r (l ++ 10 ∷ []) → formed (bare l) ≡ true
+form-formed l r f = bare-formed (f .digits) (f .spelled) (f .ends) (f .is)
+  where
+    bare-formed : {e : List ℕ} (m : List ℕ) → Spelled (bytes r) m → LineEnd e → l ++ 10 ∷ [] ≡ 58 ∷ m ++ e → formed (bare l) ≡ true
+    bare-formed m s lf q = rw (same-front l (58 ∷ m) 10 q, bare-without (58 ∷ m) (colon-without s 13 (omega arith) (omega arith))) (formed-spelled r s)
+    bare-formed m s crlf q =
+        let p : l ≡ 58 ∷ m ++ 13 ∷ [] = same-front l (58 ∷ m ++ 13 ∷ []) 10 (q ∙ ap (λ (k : List ℕ). 58 ∷ k) (sym (append-assoc m (13 ∷ []) (10 ∷ [])))) in
+        rw (p, bare-return (58 ∷ m)) (formed-spelled r s)
+
+-- ---- a line judged
+
+-- what the judgement of a line tells: with the data that the reader takes from it
+pub data Judged (room : ℕ) (image line taken : List ℕ) : Record → Type 0 where
+  more : {r : Fields} {n : ℕ} → Form r line → Balanced r → IsData (length image) r → taken ≡ r .contents → length image + length (r .contents) ≤ room
+      → Judged room image line taken (Data n)
+  end : {r : Fields} → Form r line → Balanced r → IsEnd r → Judged room image line taken End
+  fault : {n : ℕ} → Breaks room image line n → Judged room image line taken (Fault n)
+
+module _ (room : ℕ) (image l : List ℕ) where
+  abbrev at : ℕ
+  at = length image
+
+  abbrev taken : List ℕ
+  taken = dataOf (recordBytes (bare l))
+
+  abbrev Tells : Record → Type 0
+  Tells judged = Judged room image (l ++ 10 ∷ []) taken judged
+
+  balanced-judged : (r : Fields) → Form r (l ++ 10 ∷ []) → Balanced r → length (r .contents) ≤ 255 → taken ≡ r .contents → Kind at r → Tells (judgedFields room at r)
+  balanced-judged r f z small t (isData d) =
+      split (at + length (r .contents)) room
+      (λ h. rw (typed-data d room h) (more f z d t h))
+      (λ h. rw (typed-full d room h) (fault (noRoom f z d h)))
+  balanced-judged r f z small t (isEnd d) = rw (typed-end d room at) (end f z d)
+  balanced-judged r f z small t (isNeither v w) =
+      rw (typed-neither room at (length (r .contents)) (r .address) (r .type)
+      (λ p q o. v (record { type-00 = p; some = q; at-most = small; starts = o }))
+      (λ p q o. w (record { type-01 = p; empty = q; address-0 = o })))
+      (fault (neither f z v w))
+
+  formed-judged : Seen (bare l) → Tells (judge room at (bare l))
+  unfolding recordBytes
+  formed-judged s =
+      let r : Fields = s .fields in
+      let f : Form r (l ++ 10 ∷ []) = form-of l s in
+      let small : length (r .contents) < 256 = spelled-small (s .spelled) 0 in
+      let t : taken ≡ r .contents = rw (s .is, spelled-bytes (s .spelled)) (data-bytes r) in
+      let e : judge room at (bare l) ≡ judge room at (58 ∷ s .digits) = ap (judge room at) (s .is) in
+      decide (eqb (total (bytes r) % 256) 0)
+      (λ (q : eqb (total (bytes r) % 256) 0 ≡ true).
+      let z : Balanced r = eqb-true (total (bytes r) % 256) 0 q in
+      rw (e, judge-balanced r (s .spelled) room at z) (balanced-judged r f z (omega arith) t (kind-of at r (omega arith))))
+      (λ (q : eqb (total (bytes r) % 256) 0 ≡ false).
+      let z : (Balanced r → ⊥) = eqb-false (total (bytes r) % 256) 0 q in
+      rw (e, judge-unbalanced r (s .spelled) room at z) (fault (notBalanced f z)))
+
+  -- every line is judged by the first rule that it breaks
+  pub judged : Tells (judge room at (bare l))
+  judged =
+      decide (formed (bare l))
+      (λ q. formed-judged (formed-seen (bare l) q))
+      (λ q. rw (judge-unformed room at (bare l) q) (fault (noForm (λ r f. never (sym q ∙ form-formed l r f)))))
+
+  pub judge-noForm : ((r : Fields) → Form r (l ++ 10 ∷ []) → ⊥) → judge room at (bare l) ≡ Fault 1
+  judge-noForm v =
+      decide (formed (bare l))
+      (λ q. let s = formed-seen (bare l) q in absurd (v (s .fields) (form-of l s)))
+      (λ q. judge-unformed room at (bare l) q)
