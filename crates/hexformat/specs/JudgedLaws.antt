@@ -1,6 +1,6 @@
 -- A line judged, both ways: what the judgement of a record is, and what record a judgement tells of.
 use mathlib.Core.Path.{_≡_, refl, sym, ap, _∙_, subst}
-use mathlib.Core.Bool.{Bool, true, false, _&&_}
+use mathlib.Core.Bool.{Bool, true, false, cond, _&&_}
 use mathlib.Core.List.{List, [], _∷_, _++_, append-nil, append-assoc}
 use Prim.Native.Nat.{ℕ, zero, suc, _+_, _-_, _*_, _%_, _/_, _≤_, _<_}
 use native.Mathlib.Omega.{arith}
@@ -21,20 +21,6 @@ use Rattle.hexformat.specs.SpelledLaws.{spelled-bytes, spelled-of, spell
 use Rattle.hexformat.specs.ReadingLaws.{bare-without, bare-return, data-bytes, formed-spelled, colon-without, judge-balanced, judge-unbalanced}
 
 -- ---- type, count, address and room
-
-module _ (room at count address type : ℕ) where
-  typed-neither : (type ≡ 0 → 0 < count → address ≡ at → ⊥) → (type ≡ 1 → count ≡ 0 → address ≡ 0 → ⊥) → typed room at count address type ≡ Fault 3
-  unfolding typed
-  typed-neither f g =
-      decide (eqb type 0)
-      (λ q. decide (ltb 0 count && eqb address at)
-      (λ p. absurd (f (eqb-true type 0 q) (ltb-true 0 count (both-left (ltb 0 count) (eqb address at) p)) (eqb-true address at (both-right (ltb 0 count) (eqb address at) p))))
-      (λ p. rw (q, p)))
-      (λ q. decide (eqb type 1 && (eqb count 0 && eqb address 0))
-      (λ p.
-      let e = both-right (eqb type 1) (eqb count 0 && eqb address 0) p in
-      absurd (g (eqb-true type 1 (both-left (eqb type 1) (eqb count 0 && eqb address 0) p)) (eqb-true count 0 (both-left (eqb count 0) (eqb address 0) e)) (eqb-true address 0 (both-right (eqb count 0) (eqb address 0) e))))
-      (λ p. rw (q, p)))
 
 abbrev judgedFields : (room at : ℕ) → Fields → Record
 judgedFields room at r = typed room at (length (r .contents)) (r .address) (r .type)
@@ -58,9 +44,14 @@ typed-end {r} d room at = rw (d .type-01, d .empty, d .address-0)
 data Kind (at : ℕ) (r : Fields) : Type 0 where
   isData : IsData at r → Kind at r
   isEnd : IsEnd r → Kind at r
-  isNeither : (IsData at r → ⊥) → (IsEnd r → ⊥) → Kind at r
+  isNeither : (IsData at r → ⊥) → (IsEnd r → ⊥) → ((room : ℕ) → judgedFields room at r ≡ Fault 3) → Kind at r
+
+other-fault : (a b c : Bool) (x : Record) → (a && b) ≡ false → c ≡ false → cond a (cond b x (Fault 3)) (cond c End (Fault 3)) ≡ Fault 3
+other-fault true b c x p q = rw p
+other-fault false b c x p q = rw q
 
 kind-of : (at : ℕ) (r : Fields) → length (r .contents) ≤ 255 → Kind at r
+unfolding typed
 kind-of at r small =
     let n : ℕ = length (r .contents) in
     decide (eqb (r .type) 0 && (ltb 0 n && eqb (r .address) at))
@@ -83,7 +74,16 @@ kind-of at r small =
     (λ o.
     isNeither
     (λ (d : IsData at r). never (sym p ∙ rw (d .type-00, lt-ltb 0 n (d .some), eq-eqb (r .address) at (d .starts))))
-    (λ (d : IsEnd r). never (sym o ∙ rw (d .type-01, d .empty, d .address-0)))))
+    (λ (d : IsEnd r). never (sym o ∙ rw (d .type-01, d .empty, d .address-0)))
+    (λ room. other-fault (eqb (r .type) 0) (ltb 0 n && eqb (r .address) at) (eqb (r .type) 1 && (eqb n 0 && eqb (r .address) 0)) (cond (leb (at + n) room) (Data n) (Fault 4)) p o)))
+
+pub typed-other : {at : ℕ} {r : Fields} → length (r .contents) ≤ 255 → (IsData at r → ⊥) → (IsEnd r → ⊥) → (room : ℕ) → judgedFields room at r ≡ Fault 3
+typed-other {at} {r} small v w room = of (kind-of at r small)
+  where
+    of : Kind at r → judgedFields room at r ≡ Fault 3
+    of (isData d) = absurd (v d)
+    of (isEnd d) = absurd (w d)
+    of (isNeither p q e) = e room
 
 -- ---- the record of a formed line
 
@@ -206,17 +206,13 @@ module _ (room : ℕ) (image l : List ℕ) where
   abbrev Tells : Record → Type 0
   Tells judged = Judged room image (l ++ 10 ∷ []) taken judged
 
-  balanced-judged : (r : Fields) → Form r (l ++ 10 ∷ []) → Balanced r → length (r .contents) ≤ 255 → taken ≡ r .contents → Kind at r → Tells (judgedFields room at r)
-  balanced-judged r f z small t (isData d) =
+  balanced-judged : (r : Fields) → Form r (l ++ 10 ∷ []) → Balanced r → taken ≡ r .contents → Kind at r → Tells (judgedFields room at r)
+  balanced-judged r f z t (isData d) =
       split (at + length (r .contents)) room
       (λ h. rw (typed-data d room h) (more f z d t h))
       (λ h. rw (typed-full d room h) (fault (noRoom f z d h)))
-  balanced-judged r f z small t (isEnd d) = rw (typed-end d room at) (end f z d)
-  balanced-judged r f z small t (isNeither v w) =
-      rw (typed-neither room at (length (r .contents)) (r .address) (r .type)
-      (λ p q o. v (record { type-00 = p; some = q; at-most = small; starts = o }))
-      (λ p q o. w (record { type-01 = p; empty = q; address-0 = o })))
-      (fault (neither f z v w))
+  balanced-judged r f z t (isEnd d) = rw (typed-end d room at) (end f z d)
+  balanced-judged r f z t (isNeither v w e) = rw (e room) (fault (neither f z v w))
 
   formed-judged : Seen (bare l) → Tells (judge room at (bare l))
   unfolding recordBytes
@@ -229,7 +225,7 @@ module _ (room : ℕ) (image l : List ℕ) where
       decide (eqb (total (bytes r) % 256) 0)
       (λ (q : eqb (total (bytes r) % 256) 0 ≡ true).
       let z : Balanced r = eqb-true (total (bytes r) % 256) 0 q in
-      rw (e, judge-balanced r (s .spelled) room at z) (balanced-judged r f z (omega arith) t (kind-of at r (omega arith))))
+      rw (e, judge-balanced r (s .spelled) room at z) (balanced-judged r f z t (kind-of at r (omega arith))))
       (λ (q : eqb (total (bytes r) % 256) 0 ≡ false).
       let z : (Balanced r → ⊥) = eqb-false (total (bytes r) % 256) 0 q in
       rw (e, judge-unbalanced r (s .spelled) room at z) (fault (notBalanced f z)))

@@ -3,3 +3,5 @@ pub mod Faults
 pub mod SpelledLaws
 pub mod ReadingLaws
 pub mod JudgedLaws
+pub mod ComesLaws
+pub mod Agrees
