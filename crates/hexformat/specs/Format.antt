@@ -3,7 +3,7 @@
 use mathlib.Core.Path.{_≡_}
 use mathlib.Core.List.{List, [], _∷_, _++_}
 use Prim.Native.Nat.{ℕ, _+_, _-_, _/_, _%_, _≤_, _<_}
-use lib.ListN.{length}
+use lib.ListN.{length, getD}
 use Rattle.laws.specs.Sums.{total}
 
 -- ---- characters
@@ -82,3 +82,9 @@ pub record GoodText (image text : List ℕ) : Type 0 where
   pub formed : Form end last
   pub balanced : Balanced end
   pub ends : IsEnd end
+
+-- ---- an image
+
+-- each element is a byte
+abbrev pub AllBytes : List ℕ → Type 0
+AllBytes image = (i : ℕ) → getD image i 0 < 256

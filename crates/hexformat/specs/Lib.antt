@@ -5,3 +5,4 @@ pub mod ReadingLaws
 pub mod JudgedLaws
 pub mod ComesLaws
 pub mod Agrees
+pub mod WrittenLaws
