@@ -6,3 +6,6 @@ pub mod JudgedLaws
 pub mod ComesLaws
 pub mod Agrees
 pub mod WrittenLaws
+pub mod RoundTrip
+pub mod Damage
+pub mod OneCharacter

@@ -201,3 +201,17 @@ length-writing (suc most) address (b ∷ y) h =
 pub length-textOf : (image : List ℕ) → length (textOf image) ≡ textLength (length image)
 unfolding textOf
 length-textOf image = length-writing (length image) 0 image (omega arith)
+
+pub textLength-full : (n : ℕ) → textLength (16 * n) ≡ 44 * n + 12
+unfolding textLength
+textLength-full n =
+    let q : 16 * n / 16 ≡ n = omega arith in
+    let r : 16 * n % 16 ≡ 0 = omega arith in
+    rw (q, r) (omega arith)
+
+pub textLength-rest : (n r : ℕ) → 0 < r → r < 16 → textLength (16 * n + r) ≡ 44 * n + (12 + 2 * r) + 12
+unfolding textLength
+textLength-rest n r h k =
+    let q : (16 * n + r) / 16 ≡ n = omega arith in
+    let m : (16 * n + r) % 16 ≡ r = omega arith in
+    rw (q, m, ne-eqb r 0 (λ (e : r ≡ 0). omega arith)) (omega arith)
