@@ -21,6 +21,7 @@ use Rattle.hextext.specs.declared.Record.the-variants.{Data, End, Fault}
 use Rattle.hexformat.specs.Format.{Digit}
 use Rattle.hexformat.specs.Damage.{IsRefused, SameDigit}
 use Rattle.hexformat.specs.SpelledLaws.{digit-value, digit-of}
+use Rattle.hexformat.specs.ReadingLaws.{without-one, bare-without, bare-return}
 
 -- ---- the sum of digits, as a function of one of them
 
@@ -102,3 +103,105 @@ module _ (b c : ℕ) (differ : b ≡ c → ⊥) where
         same-digit = record { value = digit c; first = digit-of b (digit c) e k; second = digit-of c (digit c) refl k };
         same-record = same-bytes u w b c e;
       }
+
+-- ---- the CR before the LF
+
+cond-push : (t : Bool) (u v w : List ℕ) → cond t (u ++ v) (u ++ w) ≡ u ++ cond t v w
+cond-push true u v w = refl
+cond-push false u v w = refl
+
+-- only a line's last character is looked at
+bare-append : (u v : List ℕ) (c : ℕ) → bare (u ++ c ∷ v) ≡ u ++ bare (c ∷ v)
+unfolding bare
+bare-append u v c =
+    let e : length (u ++ c ∷ v) - 1 ≡ length u + length v = omega (arith, length-append u (c ∷ v)) in
+    let e′ : length (c ∷ v) - 1 ≡ length v = omega arith in
+    rw (e, e′, getD-append-add u (c ∷ v) (length v) 0, take-append-add u (c ∷ v) (length v))
+    (cond-push (eqb (getD (c ∷ v) (length v) 0) 13) u (take (length v) (c ∷ v)) (c ∷ v))
+
+bare-on : (u v : List ℕ) (c d : ℕ) → bare (u ++ c ∷ d ∷ v) ≡ u ++ c ∷ bare (d ∷ v)
+bare-on u v c d = bare-append u (d ∷ v) c ∙ ap (λ (l : List ℕ). u ++ l) (bare-append (c ∷ []) v d)
+
+bare-last : (u : List ℕ) (c : ℕ) → (c ≡ 13 → ⊥) → bare (u ++ c ∷ []) ≡ u ++ c ∷ []
+bare-last u c h = bare-append u [] c ∙ ap (λ (l : List ℕ). u ++ l) (bare-without (c ∷ []) (without-one 13 c (omega arith) h))
+
+-- a formed line has an odd number of characters
+formed-odd : (u : List ℕ) (c : ℕ) → formed u ≡ true → formed (u ++ c ∷ []) ≡ true → ⊥
+formed-odd u c e e′ = omega (arith, formed-length u e, formed-length (u ++ c ∷ []) e′, length-append u (c ∷ []))
+
+module _ (b c : ℕ) (differ : b ≡ c → ⊥) where
+  alike-bare : (u v : List ℕ) → Sound (bare (u ++ b ∷ v)) → Sound (bare (u ++ c ∷ v)) → Alike b c (bare (u ++ b ∷ v)) (bare (u ++ c ∷ v))
+  alike-bare u (d ∷ v) s t = rw (bare-on u v b d, bare-on u v c d) (alike b c differ u (bare (d ∷ v)) (rw (bare-on u v b d) at s) (rw (bare-on u v c d) at t))
+  alike-bare u [] s t =
+      decide (eqb b 13)
+      (λ p. decide (eqb c 13)
+      (λ q. absurd (differ (eqb-true b 13 p ∙ sym (eqb-true c 13 q))))
+      (λ q.
+      let l : bare (u ++ b ∷ []) ≡ u = rw (eqb-true b 13 p) (bare-return u) in
+      absurd (formed-odd u c (rw l at (s .well-formed)) (rw (bare-last u c (eqb-false c 13 q)) at (t .well-formed)))))
+      (λ p. decide (eqb c 13)
+      (λ q.
+      let l : bare (u ++ c ∷ []) ≡ u = rw (eqb-true c 13 q) (bare-return u) in
+      absurd (formed-odd u b (rw l at (t .well-formed)) (rw (bare-last u b (eqb-false b 13 p)) at (s .well-formed))))
+      (λ q.
+      let l = bare-last u b (eqb-false b 13 p) in
+      let m = bare-last u c (eqb-false c 13 q) in
+      rw (l, m) (alike b c differ u [] (rw l at s) (rw m at t))))
+
+-- ---- the reader
+
+pub refused-not : {X : Type 0} {r : Refusal} {y : List ℕ} → refused r ≡ result y → X
+refused-not e = let z : _≡_ {A = ℕ} 0 1 = cc in absurd (omega arith)
+
+-- a line that is read is sound
+sound-line : (room at line : ℕ) (l image text y : List ℕ) (next : Outcome) → after (judge room at l) line image text next ≡ result y → Sound l
+unfolding judge summed after
+sound-line room at line l image text y next e =
+    decide (formed l)
+    (λ (p : formed l ≡ true). decide (eqb (total (recordBytes l) % 256) 0)
+    (λ (q : eqb (total (recordBytes l) % 256) 0 ≡ true). record { well-formed = p; balanced = eqb-true (total (recordBytes l) % 256) 0 q })
+    (λ (q : eqb (total (recordBytes l) % 256) 0 ≡ false). refused-not (rw (p, q) at e)))
+    (λ (p : formed l ≡ false). refused-not (rw p at e))
+
+-- a colon inside a line
+colon-inside : (room line : ℕ) (image u v text y : List ℕ) (a : ℕ) → reading room line image (a ∷ u ++ 58 ∷ v) text ≡ result y → ⊥
+unfolding reading
+colon-inside room line image u v [] y a e = refused-not e
+colon-inside room line image u v (c ∷ text) y a e =
+    decide (eqb c 10)
+    (λ (q : eqb c 10 ≡ true).
+    let s = sound-line room (length image) line (bare (a ∷ u ++ 58 ∷ v)) image text y _ (rw q at e) in
+    not-formed v (s .well-formed))
+    (λ (q : eqb c 10 ≡ false). colon-inside room line image u (v ++ c ∷ []) text y a (rw (q, append-assoc (a ∷ u) (58 ∷ v) (c ∷ [])) at e))
+  where
+    no-digit : (w : List ℕ) → formed (a ∷ u ++ 58 ∷ w) ≡ true → ⊥
+    no-digit w f = omega (arith, digit-between 58 (omega arith) (omega arith), digit-inside u w 58 (formed-digits (a ∷ u ++ 58 ∷ w) f))
+    not-formed : (v : List ℕ) → formed (bare (a ∷ u ++ 58 ∷ v)) ≡ true → ⊥
+    not-formed [] f = no-digit [] (rw (bare-last (a ∷ u) 58 (λ (e : 58 ≡ 13). omega arith)) at f)
+    not-formed (d ∷ v) f = no-digit (bare (d ∷ v)) (rw (bare-on (a ∷ u) v 58 d) at f)
+
+same-judged : (room at : ℕ) (l m : List ℕ) → formed l ≡ true → formed m ≡ true → recordBytes l ≡ recordBytes m → judge room at m ≡ judge room at l
+unfolding judge
+same-judged room at l m f g e = rw (f, g, e)
+
+same-result : {x y : List ℕ} → result x ≡ result y → x ≡ y
+same-result e = cc
+
+module _ (room b c : ℕ) (differ : b ≡ c → ⊥) where
+  -- the character stands in the part of the line already passed
+  in-line : (line : ℕ) (image u v text y z : List ℕ) → reading room line image (u ++ b ∷ v) text ≡ result y → reading room line image (u ++ c ∷ v) text ≡ result z
+      → SameDigit b c × (z ≡ y)
+  unfolding reading
+  in-line line image u v [] y z e f = refused-not e
+  in-line line image u v (a ∷ text) y z e f =
+      decide (eqb a 10)
+      (λ (q : eqb a 10 ≡ true).
+      let l : List ℕ = bare (u ++ b ∷ v) in
+      let m : List ℕ = bare (u ++ c ∷ v) in
+      let s = sound-line room (length image) line l image text y (reading room (line + 1) (image ++ dataOf (recordBytes l)) [] text) (rw q at e) in
+      let t = sound-line room (length image) line m image text z (reading room (line + 1) (image ++ dataOf (recordBytes m)) [] text) (rw q at f) in
+      let k = alike-bare b c differ u v s t in
+      let j : judge room (length image) m ≡ judge room (length image) l = same-judged room (length image) l m (s .well-formed) (t .well-formed) (k .same-record) in
+      (k .same-digit, same-result (sym (rw (q, j, ← (k .same-record)) at f) ∙ rw q at e)))
+      (λ (q : eqb a 10 ≡ false).
+      in-line line image u (v ++ a ∷ []) text y z (rw (q, append-assoc u (b ∷ v) (a ∷ [])) at e) (rw (q, append-assoc u (c ∷ v) (a ∷ [])) at f))
