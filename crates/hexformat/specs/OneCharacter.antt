@@ -3,7 +3,7 @@ use mathlib.Core.Path.{_≡_, refl, sym, ap, _∙_, subst}
 use mathlib.Core.Bool.{Bool, true, false, cond, _&&_}
 use mathlib.Core.Logic.{_⊎_, inl, inr, ⊎-elim}
 use mathlib.Core.List.{List, [], _∷_, _++_, append-nil, append-assoc}
-use Prim.Native.Nat.{ℕ, zero, suc, _+_, _-_, _*_, _%_, _/_, _≤_, _<_}
+use Prim.Native.Nat.{ℕ, zero, suc, _+_, _-_, _*_, _%_, _/_, _≤_, _<_, min}
 use native.Mathlib.Omega.{arith}
 use lib.Dec.{eqb, ltb}
 use lib.ListN.{length, take, drop, getD, length-append}
@@ -205,3 +205,103 @@ module _ (room b c : ℕ) (differ : b ≡ c → ⊥) where
       (k .same-digit, same-result (sym (rw (q, j, ← (k .same-record)) at f) ∙ rw q at e)))
       (λ (q : eqb a 10 ≡ false).
       in-line line image u (v ++ a ∷ []) text y z (rw (q, append-assoc u (b ∷ v) (a ∷ [])) at e) (rw (q, append-assoc u (c ∷ v) (a ∷ [])) at f))
+
+first-formed : (d : ℕ) (u : List ℕ) → formed (bare (d ∷ u)) ≡ true → d ≡ 58
+unfolding formed
+first-formed d [] f =
+    decide (eqb d 13)
+    (λ q. let e : bare (d ∷ []) ≡ [] = rw (eqb-true d 13 q) (bare-return []) in never (rw e at f))
+    (λ q. formed-colon (d ∷ []) (rw (bare-last [] d (eqb-false d 13 q)) at f))
+first-formed d (e ∷ u) f = formed-colon (d ∷ bare (e ∷ u)) (rw (bare-on [] u d e) at f)
+
+-- a line that is read starts with a colon
+first-colon : (room line : ℕ) (image u text y : List ℕ) (d : ℕ) → reading room line image (d ∷ u) text ≡ result y → d ≡ 58
+unfolding reading
+first-colon room line image u [] y d e = refused-not e
+first-colon room line image u (c ∷ text) y d e =
+    decide (eqb c 10)
+    (λ (q : eqb c 10 ≡ true). first-formed d u (sound-line room (length image) line (bare (d ∷ u)) image text y _ (rw q at e) .well-formed))
+    (λ (q : eqb c 10 ≡ false). first-colon room line image (u ++ c ∷ []) text y d (rw q at e))
+
+empty-line : formed (bare []) ≡ true → ⊥
+unfolding bare formed
+empty-line f = never f
+
+starts-colon : (room line : ℕ) (image text y : List ℕ) (d : ℕ) → reading room line image [] (d ∷ text) ≡ result y → d ≡ 58
+unfolding reading
+starts-colon room line image text y d e =
+    decide (eqb d 10)
+    (λ (q : eqb d 10 ≡ true). absurd (empty-line (sound-line room (length image) line (bare []) image text y _ (rw q at e) .well-formed)))
+    (λ (q : eqb d 10 ≡ false). first-colon room line image [] text y d (rw q at e))
+
+-- a record that is read with text after it is data
+pub goes-on : {X : Type 0} (j : Record) (line : ℕ) (image text y : List ℕ) (next : Outcome) → 0 < length text → after j line image text next ≡ result y
+    → ((n : ℕ) → j ≡ Data n → next ≡ result y → X) → X
+unfolding after
+goes-on (Data n) line image text y next h e f = f n refl e
+goes-on End line image [] y next h e f = absurd (omega arith)
+goes-on End line image (c ∷ text) y next h e f = refused-not e
+goes-on (Fault n) line image text y next h e f = refused-not e
+
+-- an LF can't trade places with another character
+line-feed : (room line : ℕ) (image u text y z : List ℕ) (c : ℕ) → (c ≡ 10 → ⊥)
+    → reading room line image u (10 ∷ text) ≡ result y → reading room line image u (c ∷ text) ≡ result z → ⊥
+unfolding reading
+line-feed room line image u [] y z c h e f = refused-not (rw (ne-eqb c 10 h) at f)
+line-feed room line image u (d ∷ text) y z c h e f =
+    goes-on (judge room (length image) (bare u)) line image (d ∷ text) y (reading room (line + 1) (image ++ dataOf (recordBytes (bare u))) [] (d ∷ text)) (omega arith) e
+    (λ m j n.
+    let q : d ≡ 58 = starts-colon room (line + 1) (image ++ dataOf (recordBytes (bare u))) text y d n in
+    later (u ++ c ∷ []) (omega (arith, length-append u (c ∷ []))) (rw (ne-eqb c 10 h, q) at f))
+  where
+    later : (p : List ℕ) → 0 < length p → reading room line image (p ++ 58 ∷ []) text ≡ result z → ⊥
+    later [] h e = omega arith
+    later (a ∷ p) h e = colon-inside room line image p [] text z a e
+
+module _ (room b c : ℕ) (differ : b ≡ c → ⊥) where
+  -- two texts that differ in one character, and are both read
+  both-read : (line : ℕ) (image passed before rest y z : List ℕ)
+      → reading room line image passed (before ++ b ∷ rest) ≡ result y → reading room line image passed (before ++ c ∷ rest) ≡ result z
+      → SameDigit b c × (z ≡ y)
+  unfolding reading after
+  both-read line image passed [] rest y z e f =
+      decide (eqb b 10)
+      (λ (p : eqb b 10 ≡ true).
+      absurd (line-feed room line image passed rest y z c (λ (q : c ≡ 10). differ (eqb-true b 10 p ∙ sym q)) (rw (eqb-true b 10 p) at e) f))
+      (λ (p : eqb b 10 ≡ false).
+      decide (eqb c 10)
+      (λ (q : eqb c 10 ≡ true). absurd (line-feed room line image passed rest z y b (eqb-false b 10 p) (rw (eqb-true c 10 q) at f) e))
+      (λ (q : eqb c 10 ≡ false). in-line room b c differ line image passed [] rest y z (rw p at e) (rw q at f)))
+  both-read line image passed (a ∷ before) rest y z e f =
+      decide (eqb a 10)
+      (λ (q : eqb a 10 ≡ true).
+      let image′ : List ℕ = image ++ dataOf (recordBytes (bare passed)) in
+      goes-on (judge room (length image) (bare passed)) line image (before ++ b ∷ rest) y (reading room (line + 1) image′ [] (before ++ b ∷ rest))
+      (omega (arith, length-append before (b ∷ rest))) (rw q at e)
+      (λ n j e′. both-read (line + 1) image′ [] before rest y z e′ (rw (q, j) at f)))
+      (λ (q : eqb a 10 ≡ false). both-read line image (passed ++ a ∷ []) before rest y z (rw q at e) (rw q at f))
+
+-- ---- the theorems
+
+refused-unless : {X : Type 0} (o : Outcome) (image : List ℕ) → ((z : List ℕ) → o ≡ result z → X × (z ≡ image)) → IsRefused o ⊎ (X × (o ≡ result image))
+refused-unless (refused r) image f = inl (record { refusal-given = r; is = refl })
+refused-unless (result z) image f = let g = f z refl in inr (g .0, ap result (g .1))
+
+module _ (size : ℕ) (image before rest : List ℕ) (b c : ℕ) where
+  -- a text that is read, with any one character replaced by another: it is refused, or only a digit's case was changed, and it is read as the same image
+  pub one-character : readText size (before ++ b ∷ rest) ≡ result image → (b ≡ c → ⊥)
+      → IsRefused (readText size (before ++ c ∷ rest)) ⊎ (SameDigit b c × (readText size (before ++ c ∷ rest) ≡ result image))
+  unfolding readText
+  one-character e differ =
+      refused-unless (readText size (before ++ c ∷ rest)) image
+      (λ z f. both-read (min 4096 size) b c differ 1 [] [] before rest image z e f)
+
+  -- a text that is read, with one hexadecimal digit changed to another value, is refused
+  pub one-digit : (value other : ℕ) → readText size (before ++ b ∷ rest) ≡ result image → Digit b value → Digit c other → (value ≡ other → ⊥)
+      → IsRefused (readText size (before ++ c ∷ rest))
+  one-digit value other e d d′ differ =
+      ⊎-elim (λ r. r)
+      (λ (w : SameDigit b c × (readText size (before ++ c ∷ rest) ≡ result image)).
+      let s = w .0 in
+      absurd (differ (omega (arith, digit-value d, digit-value d′, digit-value (s .first), digit-value (s .second)))))
+      (one-character e (λ (q : b ≡ c). differ (sym (digit-value d) ∙ ap digit q ∙ digit-value d′)))
