@@ -67,17 +67,17 @@ comes room text = comes-from room 0 [] [] [] text none (omega arith) (λ i e. om
 -- ---- from the format to the reader
 
 -- a count is a byte
-count-small : {r : Fields} {l : List ℕ} → Form r l → length (r .contents) ≤ 255
+pub count-small : {r : Fields} {l : List ℕ} → Form r l → length (r .contents) ≤ 255
 count-small f = let h = spelled-small (f .spelled) 0 in omega arith
 
 module _ (room line : ℕ) (image text : List ℕ) {l : List ℕ} where
   module _ {r : Fields} (f : Form r l) (z : Balanced r) where
-    read-data : IsData (length image) r → length image + length (r .contents) ≤ room
+    pub read-data : IsData (length image) r → length image + length (r .contents) ≤ room
         → reading room line image [] (l ++ text) ≡ reading room (line + 1) (image ++ r .contents) [] text
     unfolding after
     read-data d h = reading-form room line image text f (Data (length (r .contents))) (judge-balanced r (f .spelled) room (length image) z ∙ typed-data d room h)
 
-    read-end : IsEnd r → reading room line image [] (l ++ text) ≡ after End line image text (reading room (line + 1) (image ++ r .contents) [] text)
+    pub read-end : IsEnd r → reading room line image [] (l ++ text) ≡ after End line image text (reading room (line + 1) (image ++ r .contents) [] text)
     read-end d = reading-form room line image text f End (judge-balanced r (f .spelled) room (length image) z ∙ typed-end d room (length image))
 
   -- a line that breaks a rule is refused by its number
@@ -91,7 +91,7 @@ module _ (room line : ℕ) (image text : List ℕ) {l : List ℕ} where
       reading-form room line image text f (Fault 3) (judge-balanced r (f .spelled) room (length image) z ∙ typed-other (count-small f) d e room)
   read-breaks v (noRoom {r = r} f z d h) = reading-form room line image text f (Fault 4) (judge-balanced r (f .spelled) room (length image) z ∙ typed-full d room h)
 
-read-stops : (room line : ℕ) (image passed text : List ℕ) → NoLineFeed text → reading room line image passed text ≡ refused (refusal 1 line)
+pub read-stops : (room line : ℕ) (image passed text : List ℕ) → NoLineFeed text → reading room line image passed text ≡ refused (refusal 1 line)
 unfolding reading
 read-stops room line image passed [] w = refl
 read-stops room line image passed (c ∷ text) w = rw (ne-eqb c 10 (w 0)) (read-stops room line image (passed ++ c ∷ []) text (λ i. w (suc i)))
@@ -105,11 +105,12 @@ read-lines room (next {count = count} {image = image} {text = before} {line = l}
     rw (append-assoc before l text)
     (read-lines room lines (omega arith) (l ++ text) ∙ read-data room (count + 1) image text f z d (omega arith))
 
-pub reads-good : (room : ℕ) {image text : List ℕ} → GoodText image text → length image ≤ room → reading room 1 [] [] text ≡ result image
+pub read-last : (room line : ℕ) (image : List ℕ) {r : Fields} {l : List ℕ} → Form r l → Balanced r → IsEnd r → reading room line image [] l ≡ result image
 unfolding after
-reads-good room {image} g h =
-    let e = append-nil (g .last) in
-    rw (g .is, read-lines room (g .data-lines) h (g .last), ← e, read-end room (g .count + 1) image [] (g .formed) (g .balanced) (g .ends))
+read-last room line image {r} {l} f z d = rw (append-nil l) at (read-end room line image [] f z d)
+
+pub reads-good : (room : ℕ) {image text : List ℕ} → GoodText image text → length image ≤ room → reading room 1 [] [] text ≡ result image
+reads-good room {image} g h = rw (g .is) (read-lines room (g .data-lines) h (g .last) ∙ read-last room (g .count + 1) image (g .formed) (g .balanced) (g .ends))
 
 pub reads-refuses : (room : ℕ) {text : List ℕ} {n k : ℕ} → Refuses room text n k → reading room 1 [] [] text ≡ refused (refusal n k)
 unfolding after

@@ -4,7 +4,8 @@ use mathlib.Core.List.{List, [], _++_}
 use Prim.Native.Nat.{ℕ}
 use Rattle.refusals.specs.declared.Refusal.{Refusal}
 use Rattle.refusals.specs.Refusals.{Outcome, refused}
-use Rattle.hexformat.specs.Format.{Digit}
+use lib.ListN.{length}
+use Rattle.hexformat.specs.Format.{Digit, Fields, Form, IsData, IsEnd}
 use Rattle.hexformat.specs.Faults.{WholeLine}
 
 pub record IsRefused (outcome : Outcome) : Type 0 where
@@ -21,3 +22,13 @@ pub record SameDigit (a b : ℕ) : Type 0 where
 pub data WholeLines : List ℕ → Type 0 where
   none : WholeLines []
   more : {line text : List ℕ} → WholeLine line → WholeLines text → WholeLines (line ++ text)
+
+-- a line that held the last data of an image stood directly before the end record; without it, the image is what was kept
+pub record LastData (image line rest kept : List ℕ) : Type 0 where
+  pub fields : Fields
+  pub end : Fields
+  pub formed : Form fields line
+  pub is-data : IsData (length kept) fields
+  pub end-formed : Form end rest
+  pub is-end : IsEnd end
+  pub is : image ≡ kept ++ fields .contents

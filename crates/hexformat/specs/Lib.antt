@@ -9,3 +9,4 @@ pub mod WrittenLaws
 pub mod RoundTrip
 pub mod Damage
 pub mod OneCharacter
+pub mod OneLine

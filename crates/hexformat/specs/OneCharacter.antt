@@ -184,7 +184,7 @@ same-judged : (room at : ℕ) (l m : List ℕ) → formed l ≡ true → formed 
 unfolding judge
 same-judged room at l m f g e = rw (f, g, e)
 
-same-result : {x y : List ℕ} → result x ≡ result y → x ≡ y
+pub same-result : {x y : List ℕ} → result x ≡ result y → x ≡ y
 same-result e = cc
 
 module _ (room b c : ℕ) (differ : b ≡ c → ⊥) where
@@ -235,7 +235,7 @@ starts-colon room line image text y d e =
     (λ (q : eqb d 10 ≡ false). first-colon room line image [] text y d (rw q at e))
 
 -- a record that is read with text after it is data
-pub goes-on : {X : Type 0} (j : Record) (line : ℕ) (image text y : List ℕ) (next : Outcome) → 0 < length text → after j line image text next ≡ result y
+goes-on : {X : Type 0} (j : Record) (line : ℕ) (image text y : List ℕ) (next : Outcome) → 0 < length text → after j line image text next ≡ result y
     → ((n : ℕ) → j ≡ Data n → next ≡ result y → X) → X
 unfolding after
 goes-on (Data n) line image text y next h e f = f n refl e
@@ -281,7 +281,30 @@ module _ (room b c : ℕ) (differ : b ≡ c → ⊥) where
       (λ n j e′. both-read (line + 1) image′ [] before rest y z e′ (rw (q, j) at f)))
       (λ (q : eqb a 10 ≡ false). both-read line image (passed ++ a ∷ []) before rest y z (rw q at e) (rw q at f))
 
+-- the reader stops before the end of a text that it reads
+reading-cut : (room line : ℕ) (image passed front rest y z : List ℕ) (c : ℕ)
+    → reading room line image passed (front ++ c ∷ rest) ≡ result y → reading room line image passed front ≡ result z → ⊥
+unfolding reading after
+reading-cut room line image passed [] rest y z c e f = refused-not f
+reading-cut room line image passed (a ∷ front) rest y z c e f =
+    decide (eqb a 10)
+    (λ (q : eqb a 10 ≡ true).
+    let image′ : List ℕ = image ++ dataOf (recordBytes (bare passed)) in
+    goes-on (judge room (length image) (bare passed)) line image (front ++ c ∷ rest) y (reading room (line + 1) image′ [] (front ++ c ∷ rest))
+    (omega (arith, length-append front (c ∷ rest))) (rw q at e)
+    (λ n j e′. reading-cut room (line + 1) image′ [] front rest y z c e′ (rw (q, j) at f)))
+    (λ (q : eqb a 10 ≡ false). reading-cut room line image (passed ++ a ∷ []) front rest y z c (rw q at e) (rw q at f))
+
 -- ---- the theorems
+
+pub refused-if : (o : Outcome) → ((z : List ℕ) → o ≡ result z → ⊥) → IsRefused o
+refused-if (refused r) f = record { refusal-given = r; is = refl }
+refused-if (result z) f = absurd (f z refl)
+
+-- a text that is read, cut off anywhere before its end, is refused
+pub cut-off : (size : ℕ) (image front rest : List ℕ) (c : ℕ) → readText size (front ++ c ∷ rest) ≡ result image → IsRefused (readText size front)
+unfolding readText
+cut-off size image front rest c e = refused-if (readText size front) (λ z f. reading-cut (min 4096 size) 1 [] [] front rest image z c e f)
 
 refused-unless : {X : Type 0} (o : Outcome) (image : List ℕ) → ((z : List ℕ) → o ≡ result z → X × (z ≡ image)) → IsRefused o ⊎ (X × (o ≡ result image))
 refused-unless (refused r) image f = inl (record { refusal-given = r; is = refl })
