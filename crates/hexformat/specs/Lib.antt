@@ -1,12 +1,13 @@
 pub mod Format
 pub mod Faults
+pub mod Damage
 pub mod SpelledLaws
 pub mod ReadingLaws
 pub mod JudgedLaws
 pub mod ComesLaws
-pub mod Agrees
 pub mod WrittenLaws
+pub mod CharacterLaws
+pub mod LineLaws
+pub mod Agrees
 pub mod RoundTrip
-pub mod Damage
-pub mod OneCharacter
-pub mod OneLine
+pub mod Damaged

@@ -10,7 +10,8 @@ use lib.Seq.{getD-append-seam, take-append-seam}
 use borrow.Author.Tests.{eq-eqb, ne-eqb, eqb-true}
 use Rattle.laws.specs.Cases.{split}
 use Rattle.laws.specs.Sums.{total}
-use Rattle.refusals.specs.Refusals.{Outcome}
+use Rattle.refusals.specs.declared.Refusal.{Refusal}
+use Rattle.refusals.specs.Refusals.{Outcome, result, refused}
 use Rattle.hextext.specs.Record.{digit, allDigits, bytesOf, recordBytes, dataOf, formed, summed, typed, judge}
 use Rattle.hextext.specs.RecordLaws.{digit-low, allDigits-at}
 use Rattle.hextext.specs.Text.{bare, after, reading}
@@ -19,6 +20,14 @@ use Rattle.hextext.specs.declared.Record.the-variants.{Data, End, Fault}
 use Rattle.hexformat.specs.Format.{Spelled, LineEnd, lf, crlf, Fields, bytes, Form, Balanced}
 use Rattle.hexformat.specs.Faults.{NoLineFeed}
 use Rattle.hexformat.specs.SpelledLaws.{spelled-digits, spelled-bytes, spelled-length}
+
+-- ---- two answers
+
+pub refused-not : {X : Type 0} {r : Refusal} {y : List ℕ} → refused r ≡ result y → X
+refused-not e = let z : _≡_ {A = ℕ} 0 1 = cc in absurd (omega arith)
+
+pub same-result : {x y : List ℕ} → result x ≡ result y → x ≡ y
+same-result e = cc
 
 -- ---- gathering a line
 

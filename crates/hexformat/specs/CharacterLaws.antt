@@ -1,4 +1,4 @@
--- A good text with one character replaced, or cut off, is refused, or is the same text in another case of a digit.
+-- Two good texts that differ in one character, or of which one is the beginning of the other.
 use mathlib.Core.Path.{_≡_, refl, sym, ap, _∙_, subst}
 use mathlib.Core.Bool.{Bool, true, false, cond, _&&_}
 use mathlib.Core.Logic.{_⊎_, inl, inr, ⊎-elim}
@@ -18,10 +18,11 @@ use Rattle.hextext.specs.RecordLaws.{digit-between, allDigits-at, formed-colon,
 use Rattle.hextext.specs.Text.{bare, after, reading, readText}
 use Rattle.hextext.specs.declared.Record.{Record}
 use Rattle.hextext.specs.declared.Record.the-variants.{Data, End, Fault}
-use Rattle.hexformat.specs.Format.{Digit}
-use Rattle.hexformat.specs.Damage.{IsRefused, SameDigit}
-use Rattle.hexformat.specs.SpelledLaws.{digit-value, digit-of}
-use Rattle.hexformat.specs.ReadingLaws.{without-one, bare-without, bare-return}
+use Rattle.hexformat.specs.Format.{GoodText}
+use Rattle.hexformat.specs.Damage.{SameDigit}
+use Rattle.hexformat.specs.SpelledLaws.{digit-of}
+use Rattle.hexformat.specs.ReadingLaws.{refused-not, same-result, without-one, bare-without, bare-return}
+use Rattle.hexformat.specs.ComesLaws.{reads-good}
 
 -- ---- the sum of digits, as a function of one of them
 
@@ -150,9 +151,6 @@ module _ (b c : ℕ) (differ : b ≡ c → ⊥) where
 
 -- ---- the reader
 
-pub refused-not : {X : Type 0} {r : Refusal} {y : List ℕ} → refused r ≡ result y → X
-refused-not e = let z : _≡_ {A = ℕ} 0 1 = cc in absurd (omega arith)
-
 -- a line that is read is sound
 sound-line : (room at line : ℕ) (l image text y : List ℕ) (next : Outcome) → after (judge room at l) line image text next ≡ result y → Sound l
 unfolding judge summed after
@@ -183,9 +181,6 @@ colon-inside room line image u v (c ∷ text) y a e =
 same-judged : (room at : ℕ) (l m : List ℕ) → formed l ≡ true → formed m ≡ true → recordBytes l ≡ recordBytes m → judge room at m ≡ judge room at l
 unfolding judge
 same-judged room at l m f g e = rw (f, g, e)
-
-pub same-result : {x y : List ℕ} → result x ≡ result y → x ≡ y
-same-result e = cc
 
 module _ (room b c : ℕ) (differ : b ≡ c → ⊥) where
   -- the character stands in the part of the line already passed
@@ -295,36 +290,17 @@ reading-cut room line image passed (a ∷ front) rest y z c e f =
     (λ n j e′. reading-cut room (line + 1) image′ [] front rest y z c e′ (rw (q, j) at f)))
     (λ (q : eqb a 10 ≡ false). reading-cut room line image (passed ++ a ∷ []) front rest y z c (rw q at e) (rw q at f))
 
--- ---- the theorems
+-- ---- good texts
 
-pub refused-if : (o : Outcome) → ((z : List ℕ) → o ≡ result z → ⊥) → IsRefused o
-refused-if (refused r) f = record { refusal-given = r; is = refl }
-refused-if (result z) f = absurd (f z refl)
+-- two good texts that differ in one character: only a digit's case differs, and they are texts of the same image
+pub one-apart : (image other before rest : List ℕ) (b c : ℕ) → GoodText image (before ++ b ∷ rest) → GoodText other (before ++ c ∷ rest) → (b ≡ c → ⊥)
+    → SameDigit b c × (other ≡ image)
+one-apart image other before rest b c g g′ differ =
+    let room : ℕ = length image + length other in
+    both-read room b c differ 1 [] [] before rest image other (reads-good room g (omega arith)) (reads-good room g′ (omega arith))
 
--- a text that is read, cut off anywhere before its end, is refused
-pub cut-off : (size : ℕ) (image front rest : List ℕ) (c : ℕ) → readText size (front ++ c ∷ rest) ≡ result image → IsRefused (readText size front)
-unfolding readText
-cut-off size image front rest c e = refused-if (readText size front) (λ z f. reading-cut (min 4096 size) 1 [] [] front rest image z c e f)
-
-refused-unless : {X : Type 0} (o : Outcome) (image : List ℕ) → ((z : List ℕ) → o ≡ result z → X × (z ≡ image)) → IsRefused o ⊎ (X × (o ≡ result image))
-refused-unless (refused r) image f = inl (record { refusal-given = r; is = refl })
-refused-unless (result z) image f = let g = f z refl in inr (g .0, ap result (g .1))
-
-module _ (size : ℕ) (image before rest : List ℕ) (b c : ℕ) where
-  -- a text that is read, with any one character replaced by another: it is refused, or only a digit's case was changed, and it is read as the same image
-  pub one-character : readText size (before ++ b ∷ rest) ≡ result image → (b ≡ c → ⊥)
-      → IsRefused (readText size (before ++ c ∷ rest)) ⊎ (SameDigit b c × (readText size (before ++ c ∷ rest) ≡ result image))
-  unfolding readText
-  one-character e differ =
-      refused-unless (readText size (before ++ c ∷ rest)) image
-      (λ z f. both-read (min 4096 size) b c differ 1 [] [] before rest image z e f)
-
-  -- a text that is read, with one hexadecimal digit changed to another value, is refused
-  pub one-digit : (value other : ℕ) → readText size (before ++ b ∷ rest) ≡ result image → Digit b value → Digit c other → (value ≡ other → ⊥)
-      → IsRefused (readText size (before ++ c ∷ rest))
-  one-digit value other e d d′ differ =
-      ⊎-elim (λ r. r)
-      (λ (w : SameDigit b c × (readText size (before ++ c ∷ rest) ≡ result image)).
-      let s = w .0 in
-      absurd (differ (omega (arith, digit-value d, digit-value d′, digit-value (s .first), digit-value (s .second)))))
-      (one-character e (λ (q : b ≡ c). differ (sym (digit-value d) ∙ ap digit q ∙ digit-value d′)))
+-- no good text is the beginning of another
+pub no-beginning : (image other front rest : List ℕ) (c : ℕ) → GoodText image (front ++ c ∷ rest) → GoodText other front → ⊥
+no-beginning image other front rest c g g′ =
+    let room : ℕ = length image + length other in
+    reading-cut room 1 [] [] front rest image other c (reads-good room g (omega arith)) (reads-good room g′ (omega arith))
