@@ -11,3 +11,4 @@ pub mod LineLaws
 pub mod Agrees
 pub mod RoundTrip
 pub mod Damaged
+pub mod Examples

@@ -18,7 +18,7 @@ use Rattle.hextext.specs.Text.{bare, after, reading}
 use Rattle.hextext.specs.declared.Record.{Record}
 use Rattle.hextext.specs.declared.Record.the-variants.{Data, End, Fault}
 use Rattle.hexformat.specs.Format.{Spelled, LineEnd, lf, crlf, Fields, bytes, Form, Balanced}
-use Rattle.hexformat.specs.Faults.{NoLineFeed}
+use Rattle.hexformat.specs.Faults.{NoLineFeed, WholeLine}
 use Rattle.hexformat.specs.SpelledLaws.{spelled-digits, spelled-bytes, spelled-length}
 
 -- ---- two answers
@@ -76,6 +76,9 @@ module _ {b l : List ℕ} (s : Spelled b l) where
   colon-without c p q zero e = omega arith
   colon-without c p q (suc i) e = digits-without l c (spelled-digits s) p q i e
 
+  return-without : NoLineFeed (58 ∷ l ++ 13 ∷ [])
+  return-without = without-append 10 (58 ∷ l) (13 ∷ []) (colon-without 10 (omega arith) (omega arith)) (without-one 10 13 (omega arith) (λ (e : 13 ≡ 10). omega arith))
+
   -- the reader at a colon, digits and a line end
   reading-spelled : (room line : ℕ) (image text : List ℕ) {e : List ℕ} → LineEnd e → reading room line image [] ((58 ∷ l ++ e) ++ text)
       ≡ after (judge room (length image) (58 ∷ l)) line image text (reading room (line + 1) (image ++ dataOf b) [] text)
@@ -89,9 +92,7 @@ module _ {b l : List ℕ} (s : Spelled b l) where
       )
   reading-spelled room line image text crlf =
       let q : (58 ∷ l ++ 13 ∷ 10 ∷ []) ++ text ≡ (58 ∷ l ++ 13 ∷ []) ++ 10 ∷ text = simp append-assoc in
-      let w : NoLineFeed (58 ∷ l ++ 13 ∷ []) =
-      without-append 10 (58 ∷ l) (13 ∷ []) (colon-without 10 (omega arith) (omega arith)) (without-one 10 13 (omega arith) (λ (e : 13 ≡ 10). omega arith)) in
-      rw (q, reading-line room line image [] (58 ∷ l ++ 13 ∷ []) text w, bare-return (58 ∷ l), spelled-bytes s)
+      rw (q, reading-line room line image [] (58 ∷ l ++ 13 ∷ []) text return-without, bare-return (58 ∷ l), spelled-bytes s)
 
 -- a record's line with its text after it
 module _ (r : Fields) where
@@ -125,3 +126,16 @@ pub reading-form : (room line : ℕ) (image text : List ℕ) {r : Fields} {l : L
     → reading room line image [] (l ++ text) ≡ after judged line image text (reading room (line + 1) (image ++ r .contents) [] text)
 reading-form room line image text {r} f judged e =
     rw (f .is, reading-spelled (f .spelled) room line image text (f .ends), e, data-bytes r)
+
+-- a record's line is a whole line
+pub form-whole : {r : Fields} {l : List ℕ} → Form r l → WholeLine l
+form-whole {l = l} f = of (f .ends) (f .is)
+  where
+    of : {e : List ℕ} → LineEnd e → l ≡ 58 ∷ f .digits ++ e → WholeLine l
+    of lf q = record { inside = 58 ∷ f .digits; is = q; no-line-feed = colon-without (f .spelled) 10 (omega arith) (omega arith) }
+    of crlf q =
+        record {
+          inside = 58 ∷ f .digits ++ 13 ∷ [];
+          is = q ∙ sym (append-assoc (58 ∷ f .digits) (13 ∷ []) (10 ∷ []));
+          no-line-feed = return-without (f .spelled);
+        }
