@@ -11,4 +11,5 @@ pub mod LineLaws
 pub mod Agrees
 pub mod RoundTrip
 pub mod Damaged
+pub mod Characters
 pub mod Examples
