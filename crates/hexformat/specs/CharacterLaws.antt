@@ -174,6 +174,7 @@ colon-inside room line image u v (c ∷ text) y a e =
   where
     no-digit : (w : List ℕ) → formed (a ∷ u ++ 58 ∷ w) ≡ true → ⊥
     no-digit w f = omega (arith, digit-between 58 (omega arith) (omega arith), digit-inside u w 58 (formed-digits (a ∷ u ++ 58 ∷ w) f))
+
     not-formed : (v : List ℕ) → formed (bare (a ∷ u ++ 58 ∷ v)) ≡ true → ⊥
     not-formed [] f = no-digit [] (rw (bare-last (a ∷ u) 58 (λ (e : 58 ≡ 13). omega arith)) at f)
     not-formed (d ∷ v) f = no-digit (bare (d ∷ v)) (rw (bare-on (a ∷ u) v 58 d) at f)

@@ -84,8 +84,12 @@ module _ (room line : ℕ) (image text : List ℕ) {l : List ℕ} where
   read-breaks : {n : ℕ} → WholeLine l → Breaks room image l n → reading room line image [] (l ++ text) ≡ refused (refusal n line)
   unfolding after
   read-breaks v (noForm w) =
-      rw (v .is, append-assoc (v .inside) (10 ∷ []) text, reading-line room line image [] (v .inside) text (v .no-line-feed),
-      judge-noForm room image (v .inside) (λ r f. w r (rw (v .is) f)))
+      rw (
+        v .is,
+        append-assoc (v .inside) (10 ∷ []) text,
+        reading-line room line image [] (v .inside) text (v .no-line-feed),
+        judge-noForm room image (v .inside) (λ r f. w r (rw (v .is) f)),
+      )
   read-breaks v (notBalanced {r = r} f w) = reading-form room line image text f (Fault 2) (judge-unbalanced r (f .spelled) room (length image) w)
   read-breaks v (neither {r = r} f z d e) =
       reading-form room line image text f (Fault 3) (judge-balanced r (f .spelled) room (length image) z ∙ typed-other (count-small f) d e room)

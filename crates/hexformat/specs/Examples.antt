@@ -72,3 +72,86 @@ pub refuses : readText 4096 (characters ":020000005101AD\n:00000001FF\n") ≡ re
 refuses =
     faulty-is-refused 4096 (characters ":020000005101AD\n:00000001FF\n") 2 1
     (breaks (characters ":00000001FF\n") refl none (omega arith) (form-whole damaged-form) (notBalanced damaged-form unbalanced))
+
+-- lower case and CR LF are as good
+pub reads-lower-case : readText 4096 (characters ":020000005101ac\r\n:00000001ff\r\n") ≡ result image
+unfolding total bytesOf digit allDigits
+reads-lower-case =
+    let end : Fields = record { type = 1; address = 0; contents = []; checksum = 0xFF } in
+    good-is-read 4096 (characters ":020000005101ac\r\n:00000001ff\r\n") image
+    (record {
+      count = 1;
+      front = characters ":020000005101ac\r\n";
+      last = characters ":00000001ff\r\n";
+      end = end;
+      is = refl;
+      data-lines =
+          next none (form-of (fields 0xAC) (characters "020000005101ac") (13 ∷ 10 ∷ []) 7 refl refl refl crlf) refl
+          (record { type-00 = refl; some = omega arith; at-most = omega arith; starts = refl });
+      formed = form-of end (characters "00000001ff") (13 ∷ 10 ∷ []) 5 refl refl refl crlf;
+      balanced = refl;
+      ends = record { type-01 = refl; empty = refl; address-0 = refl };
+    })
+    (omega arith)
+
+-- ---- hypotheses that can be met, theorem by theorem
+
+read-is-good-met : GoodText image text × (length image ≤ 4096)
+read-is-good-met = read-is-good 4096 text image reads
+
+refused-is-faulty-met : Refuses 4096 (characters ":020000005101AD\n:00000001FF\n") 2 1
+refused-is-faulty-met = refused-is-faulty 4096 (characters ":020000005101AD\n:00000001FF\n") 2 1 refuses
+
+written-reads-back-met : readText 2 (textOf image) ≡ result image
+written-reads-back-met = written-reads-back image are-bytes 2 (omega arith) (omega arith)
+
+is-written-met : writeImage 28 image ≡ result (textOf image)
+unfolding textLength
+is-written-met = is-written 28 image (omega arith) (omega arith)
+
+-- written into 30 bytes, and read into 3
+there-and-back-met : (answer : Filled) (buffer : List ℕ) → Fills (readText 3 text) (7 ∷ 7 ∷ 7 ∷ []) answer buffer
+    → (answer ≡ Length 2) × (buffer ≡ 0x51 ∷ 0x01 ∷ 0 ∷ [])
+unfolding textLength
+there-and-back-met answer buffer reads =
+    let e : writeImage 30 image ≡ result text = is-written 30 image (omega arith) (omega arith) ∙ rw writes in
+    there-and-back image (replicate 30 7) (text ++ 0 ∷ 0 ∷ []) (7 ∷ 7 ∷ 7 ∷ []) buffer 28 answer are-bytes
+    (record { answers = rw e; holds = rw e }) reads (omega arith)
+
+length-of-full-records-met : length (textOf (replicate 16 7)) ≡ 56
+length-of-full-records-met = length-of-full-records (replicate 16 7) 1 refl
+
+length-with-a-rest-met : length (textOf image) ≡ 28
+length-with-a-rest-met = length-with-a-rest image 0 2 (omega arith) (omega arith) refl
+
+-- A replaced by a
+one-character-met : let other : List ℕ = characters ":020000005101aC\n:00000001FF\n" in
+    IsRefused (readText 4096 other) ⊎ (SameDigit 65 97 × (readText 4096 other ≡ result image))
+one-character-met = one-character 4096 image (characters ":020000005101") (characters "C\n:00000001FF\n") 65 97 good (λ e. omega arith)
+
+-- C changed to D
+one-digit-met : IsRefused (readText 4096 (characters ":020000005101AD\n:00000001FF\n"))
+one-digit-met =
+    one-digit 4096 image (characters ":020000005101A") (characters "\n:00000001FF\n") 67 68 12 13 good
+    (upperCase (omega arith) (omega arith) refl) (upperCase (omega arith) (omega arith) refl) (λ e. omega arith)
+
+cut-off-met : IsRefused (readText 4096 (characters ":020000005101AC\n:00000001FF"))
+cut-off-met = cut-off 4096 image (characters ":020000005101AC\n:00000001FF") [] 10 good
+
+whole-data : WholeLine (characters ":020000005101AC\n")
+unfolding bytesOf digit allDigits
+whole-data = form-whole (form-of (fields 0xAC) (characters "020000005101AC") (10 ∷ []) 7 refl refl refl lf)
+
+whole-end : WholeLine (characters ":00000001FF\n")
+unfolding bytesOf digit allDigits
+whole-end = form-whole (form-of (record { type = 1; address = 0; contents = []; checksum = 0xFF }) (characters "00000001FF") (10 ∷ []) 5 refl refl refl lf)
+
+line-lost-met : let end : List ℕ = characters ":00000001FF\n" in
+    IsRefused (readText 4096 end) ⊎ ((kept : List ℕ) × LastData image (characters ":020000005101AC\n") end kept × (readText 4096 end ≡ result kept))
+line-lost-met = line-lost 4096 image [] (characters ":00000001FF\n") no-lines (characters ":020000005101AC\n") whole-data good
+
+line-doubled-met : IsRefused (readText 4096 (characters ":020000005101AC\n:020000005101AC\n:00000001FF\n"))
+line-doubled-met = line-doubled 4096 image [] (characters ":00000001FF\n") no-lines (characters ":020000005101AC\n") whole-data good
+
+lines-exchanged-met : IsRefused (readText 4096 (characters ":00000001FF\n:020000005101AC\n"))
+lines-exchanged-met = lines-exchanged 4096 image [] [] no-lines (characters ":020000005101AC\n") (characters ":00000001FF\n") whole-data whole-end good

@@ -99,6 +99,7 @@ first (c ∷ text) =
     without : (l : List ℕ) → (c ≡ 10 → ⊥) → NoLineFeed l → NoLineFeed (c ∷ l)
     without l n w zero e = n e
     without l n w (suc i) e = w i e
+
     longer : (c ≡ 10 → ⊥) → First text → First (c ∷ text)
     longer n (whole l t w e) =
         whole (c ∷ l) t (record { inside = c ∷ w .inside; is = ap (λ (m : List ℕ). c ∷ m) (w .is); no-line-feed = without (w .inside) n (w .no-line-feed) }) (ap (λ (m : List ℕ). c ∷ m) e)
