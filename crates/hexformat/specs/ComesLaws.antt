@@ -35,7 +35,7 @@ module _ {room count : ℕ} {image before : List ℕ} (lines : DataLines count i
       let long : length (image ++ r .contents) ≤ room = rw (length-append image (r .contents)) h in
       rw t at go (next lines f z d) long
   step passed [] taken answer w (end f z d) go =
-      (record { count = count; front = before; last = passed ++ 10 ∷ []; end = _; is = append-nil (before ++ (passed ++ 10 ∷ [])); data-lines = lines; formed = f; balanced = z; ends = d }, fits)
+      (record { count = count; front = before; last = passed ++ 10 ∷ []; end = _; is = append-nil (before ++ (passed ++ 10 ∷ [])); holds = lines; formed = f; balanced = z; ends = d }, fits)
   step passed (c ∷ text) taken answer w (end f z d) go =
       let e : count + 1 + 1 ≡ count + 2 = omega arith in
       rw e (goesOn c text refl lines fits f z d)
@@ -90,10 +90,10 @@ module _ (room line : ℕ) (image text : List ℕ) {l : List ℕ} where
         reading-line room line image [] (v .inside) text (v .no-line-feed),
         judge-noForm room image (v .inside) (λ r f. w r (rw (v .is) f)),
       )
-  read-breaks v (notBalanced {r = r} f w) = reading-form room line image text f (Fault 2) (judge-unbalanced r (f .spelled) room (length image) w)
-  read-breaks v (neither {r = r} f z d e) =
+  read-breaks v (notBalanced {fields = r} f w) = reading-form room line image text f (Fault 2) (judge-unbalanced r (f .spelled) room (length image) w)
+  read-breaks v (neither {fields = r} f z d e) =
       reading-form room line image text f (Fault 3) (judge-balanced r (f .spelled) room (length image) z ∙ typed-other (count-small f) d e room)
-  read-breaks v (noRoom {r = r} f z d h) = reading-form room line image text f (Fault 4) (judge-balanced r (f .spelled) room (length image) z ∙ typed-full d room h)
+  read-breaks v (noRoom {fields = r} f z d h) = reading-form room line image text f (Fault 4) (judge-balanced r (f .spelled) room (length image) z ∙ typed-full d room h)
 
 pub read-stops : (room line : ℕ) (image passed text : List ℕ) → NoLineFeed text → reading room line image passed text ≡ refused (refusal 1 line)
 unfolding reading
@@ -104,7 +104,7 @@ read-stops room line image passed (c ∷ text) w = rw (ne-eqb c 10 (w 0)) (read-
 read-lines : (room : ℕ) {count : ℕ} {image before : List ℕ} → DataLines count image before → length image ≤ room → (text : List ℕ)
     → reading room 1 [] [] (before ++ text) ≡ reading room (count + 1) image [] text
 read-lines room none h text = refl
-read-lines room (next {count = count} {image = image} {text = before} {line = l} {r = r} lines f z d) h text =
+read-lines room (next {count = count} {image = image} {text = before} {line = l} {fields = r} lines f z d) h text =
     let long = length-append image (r .contents) in
     rw (append-assoc before l text)
     (read-lines room lines (omega arith) (l ++ text) ∙ read-data room (count + 1) image text f z d (omega arith))
@@ -114,7 +114,7 @@ unfolding after
 read-last room line image {r} {l} f z d = rw (append-nil l) at (read-end room line image [] f z d)
 
 pub reads-good : (room : ℕ) {image text : List ℕ} → GoodText image text → length image ≤ room → reading room 1 [] [] text ≡ result image
-reads-good room {image} g h = rw (g .is) (read-lines room (g .data-lines) h (g .last) ∙ read-last room (g .count + 1) image (g .formed) (g .balanced) (g .ends))
+reads-good room {image} g h = rw (g .is) (read-lines room (g .holds) h (g .last) ∙ read-last room (g .count + 1) image (g .formed) (g .balanced) (g .ends))
 
 pub reads-refuses : (room : ℕ) {text : List ℕ} {n k : ℕ} → Refuses room text n k → reading room 1 [] [] text ≡ refused (refusal n k)
 unfolding after

@@ -24,7 +24,7 @@ answer : (size : ℕ) (text : List ℕ) → Answer text (readText size text)
 answer size text = of (readText size text) refl
   where
     of : (o : Outcome) → readText size text ≡ o → Answer text (readText size text)
-    of (refused r) e = is-refused (record { refusal-given = r; is = e })
+    of (refused r) e = is-refused (record { given = r; is = e })
     of (result image) e = is-read (read-is-good size text image e .0) e
 
 refused-if : (size : ℕ) (text : List ℕ) → ((other : List ℕ) → GoodText other text → ⊥) → IsRefused (readText size text)

@@ -85,12 +85,12 @@ reads-lower-case =
       last = characters ":00000001ff\r\n";
       end = end;
       is = refl;
-      data-lines =
+      holds =
           next none (form-of (fields 0xAC) (characters "020000005101ac") (13 ∷ 10 ∷ []) 7 refl refl refl crlf) refl
           (record { type-00 = refl; some = omega arith; at-most = omega arith; starts = refl });
       formed = form-of end (characters "00000001ff") (13 ∷ 10 ∷ []) 5 refl refl refl crlf;
       balanced = refl;
-      ends = record { type-01 = refl; empty = refl; address-0 = refl };
+      ends = record { type-01 = refl; count-0 = refl; address-0 = refl };
     })
     (omega arith)
 

@@ -1,11 +1,12 @@
--- What is wrong with a text that is not good, or has no room: document 01's refusals 1 to 4, said of the text alone.
+-- What is wrong with a text that is not good or has no room: document 01's refusals 1 to 4, said of the text alone.
+-- That the reader gives them is proved in Agrees.antt.
 use mathlib.Core.Path.{_≡_}
 use mathlib.Core.List.{List, [], _∷_, _++_}
 use Prim.Native.Nat.{ℕ, _+_, _≤_, _<_}
 use lib.ListN.{length, getD}
 use Rattle.hexformat.specs.Format.{Fields, Form, Balanced, IsData, IsEnd, DataLines}
 
--- no LF in these characters
+-- no LF among these characters
 abbrev pub NoLineFeed : List ℕ → Type 0
 NoLineFeed text = (i : ℕ) → getD text i 0 ≡ 10 → ⊥
 
@@ -17,14 +18,18 @@ pub record WholeLine (line : List ℕ) : Type 0 where
 
 -- the rule that a line breaks first, after lines that hold this image: form (1), checksum (2), type, count and address (3), room (4)
 pub data Breaks (room : ℕ) (image line : List ℕ) : (number : ℕ) → Type 0 where
-  noForm : ((r : Fields) → Form r line → ⊥) → Breaks room image line 1
-  notBalanced : {r : Fields} → Form r line → (Balanced r → ⊥) → Breaks room image line 2
-  neither : {r : Fields} → Form r line → Balanced r → (IsData (length image) r → ⊥) → (IsEnd r → ⊥) → Breaks room image line 3
-  noRoom : {r : Fields} → Form r line → Balanced r → IsData (length image) r → room < length image + length (r .contents) → Breaks room image line 4
+  noForm : ((fields : Fields) → Form fields line → ⊥) → Breaks room image line 1
+  notBalanced : {fields : Fields} → Form fields line → (Balanced fields → ⊥) → Breaks room image line 2
+  neither : {fields : Fields}
+      → Form fields line → Balanced fields → (IsData (length image) fields → ⊥) → (IsEnd fields → ⊥) → Breaks room image line 3
+  noRoom : {fields : Fields}
+      → Form fields line → Balanced fields → IsData (length image) fields → room < length image + length (fields .contents)
+      → Breaks room image line 4
 
--- a text is refused by a number at a line: the lines before it are good lines of data records that have room, or end the text too soon
+-- the first fault of a text, by its number and line. Before it stand good lines of data records, and what they hold has room;
+-- there are `count` of them, so the next line is line `count + 1`
 pub data Refuses (room : ℕ) (text : List ℕ) : (number line : ℕ) → Type 0 where
-  -- the text stops before an LF, so before its end record is whole
+  -- the text stops there, before an LF, and so without its end record
   stops : {count : ℕ} {image before : List ℕ} (rest : List ℕ)
       → text ≡ before ++ rest → DataLines count image before → length image ≤ room
       → NoLineFeed rest → Refuses room text 1 (count + 1)
@@ -33,6 +38,6 @@ pub data Refuses (room : ℕ) (text : List ℕ) : (number line : ℕ) → Type 0
       → text ≡ before ++ line ++ rest → DataLines count image before → length image ≤ room
       → WholeLine line → Breaks room image line number → Refuses room text number (count + 1)
   -- the next line is the end record, and the text goes on after it
-  goesOn : {count : ℕ} {image before line : List ℕ} {r : Fields} (c : ℕ) (rest : List ℕ)
-      → text ≡ before ++ line ++ c ∷ rest → DataLines count image before → length image ≤ room
-      → Form r line → Balanced r → IsEnd r → Refuses room text 1 (count + 2)
+  goesOn : {count : ℕ} {image before line : List ℕ} {fields : Fields} (character : ℕ) (rest : List ℕ)
+      → text ≡ before ++ line ++ character ∷ rest → DataLines count image before → length image ≤ room
+      → Form fields line → Balanced fields → IsEnd fields → Refuses room text 1 (count + 2)

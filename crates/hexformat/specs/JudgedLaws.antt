@@ -38,7 +38,7 @@ module _ {at : ℕ} {r : Fields} (d : IsData at r) (room : ℕ) where
 
 pub typed-end : {r : Fields} → IsEnd r → (room at : ℕ) → judgedFields room at r ≡ End
 unfolding typed
-typed-end {r} d room at = rw (d .type-01, d .empty, d .address-0)
+typed-end {r} d room at = rw (d .type-01, d .count-0, d .address-0)
 
 -- a record is data from an address on, the end, or neither
 data Kind (at : ℕ) (r : Fields) : Type 0 where
@@ -68,13 +68,13 @@ kind-of at r small =
     let q = both-right (eqb (r .type) 1) (eqb n 0 && eqb (r .address) 0) o in
     isEnd (record {
       type-01 = eqb-true (r .type) 1 (both-left (eqb (r .type) 1) (eqb n 0 && eqb (r .address) 0) o);
-      empty = eqb-true n 0 (both-left (eqb n 0) (eqb (r .address) 0) q);
+      count-0 = eqb-true n 0 (both-left (eqb n 0) (eqb (r .address) 0) q);
       address-0 = eqb-true (r .address) 0 (both-right (eqb n 0) (eqb (r .address) 0) q);
     }))
     (λ o.
     isNeither
     (λ (d : IsData at r). never (sym p ∙ rw (d .type-00, lt-ltb 0 n (d .some), eq-eqb (r .address) at (d .starts))))
-    (λ (d : IsEnd r). never (sym o ∙ rw (d .type-01, d .empty, d .address-0)))
+    (λ (d : IsEnd r). never (sym o ∙ rw (d .type-01, d .count-0, d .address-0)))
     (λ room. other-fault (eqb (r .type) 0) (ltb 0 n && eqb (r .address) at) (eqb (r .type) 1 && (eqb n 0 && eqb (r .address) 0)) (cond (leb (at + n) room) (Data n) (Fault 4)) p o)))
 
 pub typed-other : {at : ℕ} {r : Fields} → length (r .contents) ≤ 255 → (IsData at r → ⊥) → (IsEnd r → ⊥) → (room : ℕ) → judgedFields room at r ≡ Fault 3

@@ -94,10 +94,10 @@ end-good {count} {image} {before} lines =
       last = recordText 0 1 [];
       end = written 0 1 [];
       is = refl;
-      data-lines = lines;
+      holds = lines;
       formed = written-form 0 1 [] (omega arith) (omega arith) (omega arith) bytes-nil;
       balanced = written-balanced 0 1 [];
-      ends = record { type-01 = refl; empty = refl; address-0 = refl };
+      ends = record { type-01 = refl; count-0 = refl; address-0 = refl };
     }
 
 writing-nothing : (most address : ℕ) → writing most address [] ≡ recordText 0 1 []
