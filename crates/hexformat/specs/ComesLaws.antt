@@ -124,3 +124,16 @@ reads-refuses room (breaks {count = count} {image = image} {before = before} {li
 reads-refuses room (goesOn {count = count} {image = image} {before = before} {line = l} c rest e lines h f z d) =
     let q : count + 1 + 1 ≡ count + 2 = omega arith in
     rw (e, append-assoc before l (c ∷ rest), read-lines room lines h (l ++ c ∷ rest), read-end room (count + 1) image (c ∷ rest) f z d, q)
+
+-- ---- the numbers
+
+breaks-known : {room n : ℕ} {image l : List ℕ} → Breaks room image l n → (1 ≤ n) × (n ≤ 4)
+breaks-known (noForm f) = (omega arith, omega arith)
+breaks-known (notBalanced f z) = (omega arith, omega arith)
+breaks-known (neither f z d e) = (omega arith, omega arith)
+breaks-known (noRoom f z d h) = (omega arith, omega arith)
+
+pub refuses-known : {room n k : ℕ} {text : List ℕ} → Refuses room text n k → (1 ≤ n) × (n ≤ 4) × (1 ≤ k)
+refuses-known (stops rest e lines h w) = (omega arith, omega arith, omega arith)
+refuses-known (breaks rest e lines h v b) = let k = breaks-known b in (k .0, k .1, omega arith)
+refuses-known (goesOn c rest e lines h f z d) = (omega arith, omega arith, omega arith)

@@ -11,7 +11,7 @@ use Rattle.hexformat.specs.Format.{Digit, GoodText}
 use Rattle.hexformat.specs.Faults.{WholeLine}
 use Rattle.hexformat.specs.Damage.{IsRefused, SameDigit, WholeLines, LastData}
 use Rattle.hexformat.specs.SpelledLaws.{digit-value}
-use Rattle.hexformat.specs.Agrees.{read-is-good}
+use Rattle.hexformat.specs.Agrees.{read-exactly}
 use Rattle.hexformat.specs.CharacterLaws.{one-apart, no-beginning}
 use Rattle.hexformat.specs.LineLaws.{one-lost, one-doubled, two-exchanged}
 
@@ -25,7 +25,7 @@ answer size text = of (readText size text) refl
   where
     of : (o : Outcome) → readText size text ≡ o → Answer text (readText size text)
     of (refused r) e = is-refused (record { given = r; is = e })
-    of (result image) e = is-read (read-is-good size text image e .0) e
+    of (result image) e = is-read (read-exactly size text image .0 e .0) e
 
 refused-if : (size : ℕ) (text : List ℕ) → ((other : List ℕ) → GoodText other text → ⊥) → IsRefused (readText size text)
 refused-if size text f = of (answer size text)

@@ -16,10 +16,11 @@ use Rattle.hextext.specs.Written.{hexDigit, spell, checksum, headAndData, recor
 use Rattle.hexformat.specs.Characters.{characters}
 use Rattle.hexformat.specs.Format.{upperCase, LineEnd, lf, crlf, Fields, bytes, Form, Balanced, none, next, GoodText, AllBytes}
 use Rattle.hexformat.specs.Faults.{WholeLine, Refuses, breaks, notBalanced}
-use Rattle.hexformat.specs.Damage.{IsRefused, SameDigit, none as no-lines, LastData}
+use Rattle.hexformat.specs.Damage.{IsRefused, SameDigit, WholeLines, none as no-lines, LastData}
 use Rattle.hexformat.specs.SpelledLaws.{spelled-of}
 use Rattle.hexformat.specs.ReadingLaws.{form-whole}
-use Rattle.hexformat.specs.Agrees.{good-is-read, read-is-good, faulty-is-refused, refused-is-faulty}
+use Rattle.hexformat.specs.Agrees.{read-exactly, refused-exactly, refused-known}
+use Rattle.hexformat.specs.GoodTexts.{one-image, image-is-bytes, text-is-lines, text-length-bound, read-length-bound}
 use Rattle.hexformat.specs.RoundTrip.{written-is-good, written-reads-back, is-written, there-and-back, length-of-full-records, length-with-a-rest}
 use Rattle.hexformat.specs.Damaged.{one-character, one-digit, cut-off, line-lost, line-doubled, lines-exchanged}
 
@@ -50,7 +51,7 @@ good = rw writes at (written-is-good image are-bytes (omega arith))
 
 -- which read back
 pub reads : readText 4096 (characters ":020000005101AC\n:00000001FF\n") ≡ result image
-reads = good-is-read 4096 text image good (omega arith)
+reads = read-exactly 4096 text image .1 (good, omega arith)
 
 -- a line that is computed to have a record's form
 form-of : (r : Fields) (digits ending : List ℕ) (n : ℕ) → allDigits digits ≡ true → length digits ≡ n * 2 → bytesOf digits ≡ bytes r → LineEnd ending → Form r (58 ∷ digits ++ ending)
@@ -70,16 +71,16 @@ unbalanced e = omega arith
 -- with AD instead of AC: refused 2 at line 1
 pub refuses : readText 4096 (characters ":020000005101AD\n:00000001FF\n") ≡ refused (refusal 2 1)
 refuses =
-    faulty-is-refused 4096 (characters ":020000005101AD\n:00000001FF\n") 2 1
+    refused-exactly 4096 (characters ":020000005101AD\n:00000001FF\n") 2 1 .1
     (breaks (characters ":00000001FF\n") refl none (omega arith) (form-whole damaged-form) (notBalanced damaged-form unbalanced))
 
--- lower case and CR LF are as good
-pub reads-lower-case : readText 4096 (characters ":020000005101ac\r\n:00000001ff\r\n") ≡ result image
+abbrev end : Fields
+end = record { type = 1; address = 0; contents = []; checksum = 0xFF }
+
+lower-case : GoodText image (characters ":020000005101ac\r\n:00000001ff\r\n")
 unfolding total bytesOf digit allDigits
-reads-lower-case =
-    let end : Fields = record { type = 1; address = 0; contents = []; checksum = 0xFF } in
-    good-is-read 4096 (characters ":020000005101ac\r\n:00000001ff\r\n") image
-    (record {
+lower-case =
+    record {
       count = 1;
       front = characters ":020000005101ac\r\n";
       last = characters ":00000001ff\r\n";
@@ -91,16 +92,37 @@ reads-lower-case =
       formed = form-of end (characters "00000001ff") (13 ∷ 10 ∷ []) 5 refl refl refl crlf;
       balanced = refl;
       ends = record { type-01 = refl; count-0 = refl; address-0 = refl };
-    })
-    (omega arith)
+    }
+
+-- lower case and CR LF are as good
+pub reads-lower-case : readText 4096 (characters ":020000005101ac\r\n:00000001ff\r\n") ≡ result image
+reads-lower-case = read-exactly 4096 (characters ":020000005101ac\r\n:00000001ff\r\n") image .1 (lower-case, omega arith)
 
 -- ---- hypotheses that can be met, theorem by theorem
 
-read-is-good-met : GoodText image text × (length image ≤ 4096)
-read-is-good-met = read-is-good 4096 text image reads
+read-met : GoodText image text × (length image ≤ 4096)
+read-met = read-exactly 4096 text image .0 reads
 
-refused-is-faulty-met : Refuses 4096 (characters ":020000005101AD\n:00000001FF\n") 2 1
-refused-is-faulty-met = refused-is-faulty 4096 (characters ":020000005101AD\n:00000001FF\n") 2 1 refuses
+refused-met : Refuses 4096 (characters ":020000005101AD\n:00000001FF\n") 2 1
+refused-met = refused-exactly 4096 (characters ":020000005101AD\n:00000001FF\n") 2 1 .0 refuses
+
+refused-known-met : (1 ≤ 2) × (2 ≤ 4) × (1 ≤ 1)
+refused-known-met = refused-known 4096 (characters ":020000005101AD\n:00000001FF\n") (refusal 2 1) refuses
+
+one-image-met : image ≡ image
+one-image-met = one-image image image text good good
+
+image-is-bytes-met : AllBytes image
+image-is-bytes-met = image-is-bytes image text good
+
+text-is-lines-met : WholeLines text
+text-is-lines-met = text-is-lines image text good
+
+text-length-bound-met : 28 ≤ 43
+text-length-bound-met = text-length-bound image text good
+
+read-length-bound-met : 28 ≤ 61453
+read-length-bound-met = read-length-bound 4096 image text reads
 
 written-reads-back-met : readText 2 (textOf image) ≡ result image
 written-reads-back-met = written-reads-back image are-bytes 2 (omega arith) (omega arith)
@@ -144,7 +166,7 @@ whole-data = form-whole (form-of (fields 0xAC) (characters "020000005101AC") (10
 
 whole-end : WholeLine (characters ":00000001FF\n")
 unfolding bytesOf digit allDigits
-whole-end = form-whole (form-of (record { type = 1; address = 0; contents = []; checksum = 0xFF }) (characters "00000001FF") (10 ∷ []) 5 refl refl refl lf)
+whole-end = form-whole (form-of end (characters "00000001FF") (10 ∷ []) 5 refl refl refl lf)
 
 line-lost-met : let end : List ℕ = characters ":00000001FF\n" in
     IsRefused (readText 4096 end) ⊎ ((kept : List ℕ) × LastData image (characters ":020000005101AC\n") end kept × (readText 4096 end ≡ result kept))

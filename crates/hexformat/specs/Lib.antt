@@ -1,6 +1,7 @@
 pub mod Format
 pub mod Faults
 pub mod Damage
+pub mod BytesLaws
 pub mod SpelledLaws
 pub mod ReadingLaws
 pub mod JudgedLaws
@@ -9,6 +10,7 @@ pub mod WrittenLaws
 pub mod CharacterLaws
 pub mod LineLaws
 pub mod Agrees
+pub mod GoodTexts
 pub mod RoundTrip
 pub mod Damaged
 pub mod Characters

@@ -96,7 +96,7 @@ module _ {b l : List ℕ} (s : Spelled b l) where
 
 -- a record's line with its text after it
 module _ (r : Fields) where
-  length-bytes : length (bytes r) ≡ length (r .contents) + 5
+  pub length-bytes : length (bytes r) ≡ length (r .contents) + 5
   length-bytes = omega (arith, length-append (r .contents) (r .checksum ∷ []))
 
   pub data-bytes : dataOf (bytes r) ≡ r .contents

@@ -15,7 +15,7 @@ use Rattle.refusals.specs.Refusals.{result, answerTo, heldAfter, Fills}
 use Rattle.hextext.specs.Text.{readText}
 use Rattle.hextext.specs.Written.{recordText, textOf, textLength, writeImage}
 use Rattle.hexformat.specs.Format.{AllBytes, GoodText, none}
-use Rattle.hexformat.specs.Agrees.{good-is-read}
+use Rattle.hexformat.specs.Agrees.{read-exactly}
 use Rattle.hexformat.specs.WrittenLaws.{writing-good, length-textOf, length-recordText, textLength-full, textLength-rest}
 
 module _ (image : List ℕ) (are-bytes : AllBytes image) where
@@ -26,7 +26,7 @@ module _ (image : List ℕ) (are-bytes : AllBytes image) where
 
   -- what is written of an image reads back as the same image
   pub written-reads-back : (size : ℕ) → length image ≤ 4096 → length image ≤ size → readText size (textOf image) ≡ result image
-  written-reads-back size h k = good-is-read size (textOf image) image (written-is-good h) (omega arith)
+  written-reads-back size h k = read-exactly size (textOf image) image .1 (written-is-good h, omega arith)
 
 -- an image of 4,096 bytes or less whose text has room is written
 pub is-written : (size : ℕ) (image : List ℕ) → length image ≤ 4096 → textLength (length image) ≤ size → writeImage size image ≡ result (textOf image)

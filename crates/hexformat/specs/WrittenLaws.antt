@@ -12,28 +12,8 @@ use borrow.Author.Tests.{lt-ltb, le-ltb, ne-eqb}
 use Rattle.laws.specs.Cases.{split}
 use Rattle.laws.specs.Sums.{total}
 use Rattle.hextext.specs.Written.{hexDigit, spell, checksum, headAndData, recordText, writing, textOf, textLength}
+use Rattle.hexformat.specs.BytesLaws.{bytes-nil, bytes-cons, bytes-append, bytes-take, bytes-drop}
 use Rattle.hexformat.specs.Format.{Digit, decimal, upperCase, Spelled, nothing, pair, lf, Fields, bytes, Form, Balanced, IsData, IsEnd, DataLines, none, next, GoodText, AllBytes}
-
--- ---- bytes
-
-bytes-nil : AllBytes []
-bytes-nil i = omega arith
-
-bytes-cons : (b : ℕ) (l : List ℕ) → b < 256 → AllBytes l → AllBytes (b ∷ l)
-bytes-cons b l h w zero = h
-bytes-cons b l h w (suc i) = w i
-
-bytes-append : (l m : List ℕ) → AllBytes l → AllBytes m → AllBytes (l ++ m)
-bytes-append [] m v w = w
-bytes-append (b ∷ l) m v w = bytes-cons b (l ++ m) (v 0) (bytes-append l m (λ i. v (suc i)) w)
-
-bytes-take : (n : ℕ) (l : List ℕ) → AllBytes l → AllBytes (take n l)
-bytes-take zero l w = bytes-nil
-bytes-take (suc n) [] w = bytes-nil
-bytes-take (suc n) (b ∷ l) w = bytes-cons b (take n l) (w 0) (bytes-take n l (λ i. w (suc i)))
-
-bytes-drop : (n : ℕ) (l : List ℕ) → AllBytes l → AllBytes (drop n l)
-bytes-drop n l w i = rw (getD-drop n l i 0) (w (n + i))
 
 -- ---- a record
 
