@@ -6,7 +6,7 @@ use mathlib.Core.List.{List, [], _∷_, _++_, append-nil, append-assoc}
 use Prim.Native.Nat.{ℕ, zero, suc, _+_, _-_, _*_, _%_, _/_, _≤_, _<_, min}
 use native.Mathlib.Omega.{arith}
 use lib.Dec.{eqb, ltb}
-use lib.ListN.{length, take, drop, getD, length-append}
+use lib.ListN.{length, take, drop, getD, length-append, length-take}
 use lib.Seq.{getD-append-seam, getD-append-add, take-append-add}
 use borrow.Author.Tests.{eq-eqb, ne-eqb, eqb-true, eqb-false}
 use Rattle.laws.specs.Cases.{split, decide, never}
@@ -14,14 +14,15 @@ use Rattle.laws.specs.Sums.{total}
 use Rattle.refusals.specs.declared.Refusal.{Refusal}
 use Rattle.refusals.specs.Refusals.{Outcome, result, refused}
 use Rattle.hextext.specs.Record.{digit, allDigits, bytesOf, recordBytes, countOf, dataOf, formed, summed, typed, judge}
-use Rattle.hextext.specs.RecordLaws.{digit-between, allDigits-at, formed-colon, formed-digits, formed-length, judge-unformed}
+use Rattle.hextext.specs.RecordLaws.{digit-low, digit-between, allDigits-at, formed-colon, formed-digits, formed-length, formed-long, judge-unformed}
 use Rattle.hextext.specs.Text.{bare, after, reading, readText}
 use Rattle.hextext.specs.declared.Record.{Record}
 use Rattle.hextext.specs.declared.Record.the-variants.{Data, End, Fault}
 use Rattle.hexformat.specs.Format.{GoodText}
-use Rattle.hexformat.specs.Damage.{SameDigit}
+use Rattle.hexformat.specs.Damage.{SameDigit, SpareReturn}
 use Rattle.hexformat.specs.SpelledLaws.{digit-of}
 use Rattle.hexformat.specs.ReadingLaws.{refused-not, same-result, without-one, bare-without, bare-return}
+use Rattle.hexformat.specs.JudgedLaws.{snoc}
 use Rattle.hexformat.specs.ComesLaws.{reads-good}
 
 -- ---- the sum of digits, as a function of one of them
@@ -290,6 +291,75 @@ reading-cut room line image passed (a ∷ front) rest y z c e f =
     (omega (arith, length-append front (c ∷ rest))) (rw q at e)
     (λ n j e′. reading-cut room (line + 1) image′ [] front rest y z c e′ (rw (q, j) at f)))
     (λ (q : eqb a 10 ≡ false). reading-cut room line image (passed ++ a ∷ []) front rest y z c (rw q at e) (rw q at f))
+
+-- ---- one character more
+
+-- of two formed lines none is one character longer than the other
+formed-odd-lengths : (l m : List ℕ) → formed l ≡ true → formed m ≡ true → length m ≡ length l + 1 → ⊥
+formed-odd-lengths l m e e′ q = omega (arith, formed-length l e, formed-length m e′)
+
+-- where a line is formed both with and without its last CR taken off, it has none
+no-return : (l : List ℕ) → formed (bare l) ≡ true → formed l ≡ true → bare l ≡ l
+unfolding bare
+no-return l e e′ =
+    decide (eqb (getD l (length l - 1) 0) 13)
+    (λ (q : eqb (getD l (length l - 1) 0) 13 ≡ true).
+    let h = formed-long l e′ in
+    absurd (formed-odd-lengths (take (length l - 1) l) l (rw q at e) e′ (omega (arith, length-take (length l - 1) l))))
+    (λ (q : eqb (getD l (length l - 1) 0) 13 ≡ false). rw q)
+
+-- a formed line has no CR inside
+return-inside : (l : List ℕ) (c : ℕ) → formed l ≡ true → formed (l ++ 13 ∷ c ∷ []) ≡ true → ⊥
+return-inside [] c e f = omega (arith, formed-long [] e)
+return-inside (a ∷ l) c e f = omega (arith, digit-low 13 (omega arith), digit-inside l (c ∷ []) 13 (formed-digits (a ∷ l ++ 13 ∷ c ∷ []) f))
+
+no-longer : (l : List ℕ) (c : ℕ) → formed (bare l) ≡ true → formed (l ++ c ∷ []) ≡ true → ⊥
+unfolding bare
+no-longer l c e f =
+    let n : ℕ = length l - 1 in
+    let h = formed-long (l ++ c ∷ []) f in
+    decide (eqb (getD l n 0) 13)
+    (λ (q : eqb (getD l n 0) 13 ≡ true).
+    let p : l ≡ take n l ++ 13 ∷ [] = snoc l n (omega (arith, length-append l (c ∷ []))) ∙ ap (λ (b : ℕ). take n l ++ b ∷ []) (eqb-true (getD l n 0) 13 q) in
+    return-inside (take n l) c (rw q at e) (rw (p, append-assoc (take n l) (13 ∷ []) (c ∷ [])) at f))
+    (λ (q : eqb (getD l n 0) 13 ≡ false). formed-odd l c (rw q at e) f)
+
+module _ (room c : ℕ) where
+  -- the line with the character more ends here
+  longer-ends : (line : ℕ) (image u v text y z : List ℕ)
+      → after (judge room (length image) (bare (u ++ v))) line image text (reading room (line + 1) (image ++ dataOf (recordBytes (bare (u ++ v)))) [] text) ≡ result y
+      → after (judge room (length image) (bare (u ++ c ∷ v))) line image text (reading room (line + 1) (image ++ dataOf (recordBytes (bare (u ++ c ∷ v)))) [] text) ≡ result z
+      → SpareReturn c (v ++ 10 ∷ text) × (z ≡ y)
+  longer-ends line image u v text y z e f = ends v e f (sound-line room (length image) line (bare (u ++ v)) image text y _ e) (sound-line room (length image) line (bare (u ++ c ∷ v)) image text z _ f)
+    where
+      ends : (v : List ℕ)
+          → after (judge room (length image) (bare (u ++ v))) line image text (reading room (line + 1) (image ++ dataOf (recordBytes (bare (u ++ v)))) [] text) ≡ result y
+          → after (judge room (length image) (bare (u ++ c ∷ v))) line image text (reading room (line + 1) (image ++ dataOf (recordBytes (bare (u ++ c ∷ v)))) [] text) ≡ result z
+          → Sound (bare (u ++ v)) → Sound (bare (u ++ c ∷ v)) → SpareReturn c (v ++ 10 ∷ text) × (z ≡ y)
+      ends (d ∷ v) e f s t =
+          let l : List ℕ = bare (d ∷ v) in
+          absurd (formed-odd-lengths (u ++ l) (u ++ c ∷ l) (rw (bare-append u v d) at (s .well-formed)) (rw (bare-on u v c d) at (t .well-formed))
+          (omega (arith, length-append u l, length-append u (c ∷ l))))
+      ends [] e f s t =
+          let a : u ++ [] ≡ u = append-nil u in
+          decide (eqb c 13)
+          (λ (q : eqb c 13 ≡ true).
+          let p : c ≡ 13 = eqb-true c 13 q in
+          let m : bare (u ++ c ∷ []) ≡ u = rw p (bare-return u) in
+          let k : bare (u ++ []) ≡ u = ap bare a ∙ no-return u (rw a at (s .well-formed)) (rw m at (t .well-formed)) in
+          (record { is-return = p; after = text; line-feed = refl }, same-result (sym (rw m at f) ∙ rw k at e)))
+          (λ (q : eqb c 13 ≡ false). absurd (no-longer u c (rw a at (s .well-formed)) (rw (bare-last u c (eqb-false c 13 q)) at (t .well-formed))))
+
+  longer-line : (line : ℕ) (image u v text y z : List ℕ) → reading room line image (u ++ v) text ≡ result y → reading room line image (u ++ c ∷ v) text ≡ result z
+      → SpareReturn c (v ++ text) × (z ≡ y)
+  unfolding reading
+  longer-line line image u v [] y z e f = refused-not e
+  longer-line line image u v (a ∷ text) y z e f =
+      decide (eqb a 10)
+      (λ (q : eqb a 10 ≡ true). rw (eqb-true a 10 q) (longer-ends line image u v text y z (rw q at e) (rw q at f)))
+      (λ (q : eqb a 10 ≡ false).
+      rw (append-assoc v (a ∷ []) text) at
+      (longer-line line image u (v ++ a ∷ []) text y z (rw (q, append-assoc u v (a ∷ [])) at e) (rw (q, append-assoc u (c ∷ v) (a ∷ [])) at f)))
 
 -- ---- good texts
 

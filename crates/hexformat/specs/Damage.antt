@@ -1,6 +1,6 @@
 -- The words in which theorems speak of a damaged text.
 use mathlib.Core.Path.{_≡_}
-use mathlib.Core.List.{List, [], _++_}
+use mathlib.Core.List.{List, [], _∷_, _++_}
 use Prim.Native.Nat.{ℕ}
 use lib.ListN.{length}
 use Rattle.refusals.specs.declared.Refusal.{Refusal}
@@ -17,6 +17,12 @@ pub record SameDigit (one other : ℕ) : Type 0 where
   pub value : ℕ
   pub first : Digit one value
   pub second : Digit other value
+
+-- a CR directly before an LF
+pub record SpareReturn (character : ℕ) (rest : List ℕ) : Type 0 where
+  pub is-return : character ≡ 13
+  pub after : List ℕ
+  pub line-feed : rest ≡ 10 ∷ after
 
 -- lines, each with its LF, one after another
 pub data WholeLines : List ℕ → Type 0 where
