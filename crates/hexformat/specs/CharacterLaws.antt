@@ -1,21 +1,20 @@
 -- Two good texts that differ in one character, or of which one is the beginning of the other.
-use mathlib.Core.Path.{_≡_, refl, sym, ap, _∙_, subst}
-use mathlib.Core.Bool.{Bool, true, false, cond, _&&_}
+use mathlib.Core.Path.{_≡_, refl, sym, ap, _∙_}
+use mathlib.Core.Bool.{Bool, true, false, cond}
 use mathlib.Core.Logic.{_⊎_, inl, inr, ⊎-elim}
 use mathlib.Core.List.{List, [], _∷_, _++_, append-nil, append-assoc}
-use Prim.Native.Nat.{ℕ, zero, suc, _+_, _-_, _*_, _%_, _/_, _≤_, _<_, min}
+use Prim.Native.Nat.{ℕ, _+_, _-_, _*_, _%_, _/_, _≤_, _<_}
 use native.Mathlib.Omega.{arith}
-use lib.Dec.{eqb, ltb}
-use lib.ListN.{length, take, drop, getD, length-append, length-take}
+use lib.Dec.{eqb}
+use lib.ListN.{length, take, getD, length-append, length-take}
 use lib.Seq.{getD-append-seam, getD-append-add, take-append-add}
-use borrow.Author.Tests.{eq-eqb, ne-eqb, eqb-true, eqb-false}
+use borrow.Author.Tests.{ne-eqb, eqb-true, eqb-false}
 use Rattle.laws.specs.Cases.{split, decide, never}
 use Rattle.laws.specs.Sums.{total}
-use Rattle.refusals.specs.declared.Refusal.{Refusal}
-use Rattle.refusals.specs.Refusals.{Outcome, result, refused}
-use Rattle.hextext.specs.Record.{digit, allDigits, bytesOf, recordBytes, countOf, dataOf, formed, summed, typed, judge}
-use Rattle.hextext.specs.RecordLaws.{digit-low, digit-between, allDigits-at, formed-colon, formed-digits, formed-length, formed-long, judge-unformed}
-use Rattle.hextext.specs.Text.{bare, after, reading, readText}
+use Rattle.refusals.specs.Refusals.{Outcome, result}
+use Rattle.hextext.specs.Record.{digit, allDigits, bytesOf, recordBytes, countOf, dataOf, formed, summed, judge}
+use Rattle.hextext.specs.RecordLaws.{digit-low, digit-between, allDigits-at, formed-colon, formed-digits, formed-length, formed-long}
+use Rattle.hextext.specs.Text.{bare, after, reading}
 use Rattle.hextext.specs.declared.Record.{Record}
 use Rattle.hextext.specs.declared.Record.the-variants.{Data, End, Fault}
 use Rattle.hexformat.specs.Format.{GoodText}
@@ -361,6 +360,36 @@ module _ (room c : ℕ) where
       rw (append-assoc v (a ∷ []) text) at
       (longer-line line image u (v ++ a ∷ []) text y z (rw (q, append-assoc u v (a ∷ [])) at e) (rw (q, append-assoc u (c ∷ v) (a ∷ [])) at f)))
 
+  -- an LF too much
+  longer-by-line-feed : (line : ℕ) (image u text y z : List ℕ) → reading room line image u text ≡ result y → reading room line image u (10 ∷ text) ≡ result z → ⊥
+  unfolding reading
+  longer-by-line-feed line image u [] y z e f = refused-not e
+  longer-by-line-feed line image u (d ∷ text) y z e f =
+      goes-on (judge room (length image) (bare u)) line image (d ∷ text) z (reading room (line + 1) (image ++ dataOf (recordBytes (bare u))) [] (d ∷ text)) (omega arith) f
+      (λ n j g. inside u (sound-line room (length image) line (bare u) image (d ∷ text) z _ f) (rw (starts-colon room (line + 1) (image ++ dataOf (recordBytes (bare u))) text z d g) at e))
+    where
+      inside : (u : List ℕ) → Sound (bare u) → reading room line image (u ++ 58 ∷ []) text ≡ result y → ⊥
+      inside [] s e = empty-line (s .well-formed)
+      inside (a ∷ u) s e = colon-inside room line image u [] text y a e
+
+  -- two texts, one of which has one character more, and are both read
+  longer-read : (line : ℕ) (image passed before rest y z : List ℕ)
+      → reading room line image passed (before ++ rest) ≡ result y → reading room line image passed (before ++ c ∷ rest) ≡ result z
+      → SpareReturn c rest × (z ≡ y)
+  unfolding reading after
+  longer-read line image passed [] rest y z e f =
+      decide (eqb c 10)
+      (λ (q : eqb c 10 ≡ true). absurd (longer-by-line-feed line image passed rest y z e (rw (eqb-true c 10 q) at f)))
+      (λ (q : eqb c 10 ≡ false). longer-line line image passed [] rest y z (rw (sym (append-nil passed)) at e) (rw q at f))
+  longer-read line image passed (a ∷ before) rest y z e f =
+      decide (eqb a 10)
+      (λ (q : eqb a 10 ≡ true).
+      let image′ : List ℕ = image ++ dataOf (recordBytes (bare passed)) in
+      goes-on (judge room (length image) (bare passed)) line image (before ++ c ∷ rest) z (reading room (line + 1) image′ [] (before ++ c ∷ rest))
+      (omega (arith, length-append before (c ∷ rest))) (rw q at f)
+      (λ n j f′. longer-read (line + 1) image′ [] before rest y z (rw (q, j) at e) f′))
+      (λ (q : eqb a 10 ≡ false). longer-read line image (passed ++ a ∷ []) before rest y z (rw q at e) (rw q at f))
+
 -- ---- good texts
 
 -- two good texts that differ in one character: only a digit's case differs, and they are texts of the same image
@@ -369,6 +398,13 @@ pub one-apart : (image other before rest : List ℕ) (b c : ℕ) → GoodText im
 one-apart image other before rest b c g g′ differ =
     let room : ℕ = length image + length other in
     both-read room b c differ 1 [] [] before rest image other (reads-good room g (omega arith)) (reads-good room g′ (omega arith))
+
+-- two good texts, one of which has one character more: it is a CR directly before an LF, and they are texts of the same image
+pub one-longer : (image other before rest : List ℕ) (c : ℕ) → GoodText image (before ++ rest) → GoodText other (before ++ c ∷ rest)
+    → SpareReturn c rest × (other ≡ image)
+one-longer image other before rest c g g′ =
+    let room : ℕ = length image + length other in
+    longer-read room c 1 [] [] before rest image other (reads-good room g (omega arith)) (reads-good room g′ (omega arith))
 
 -- no good text is the beginning of another
 pub no-beginning : (image other front rest : List ℕ) (c : ℕ) → GoodText image (front ++ c ∷ rest) → GoodText other front → ⊥

@@ -1,22 +1,22 @@
 -- What a text comes to: from the reader's answer to the format, and back.
-use mathlib.Core.Path.{_≡_, refl, sym, ap, _∙_, subst}
+use mathlib.Core.Path.{_≡_, refl, _∙_}
 use mathlib.Core.Bool.{true, false}
 use mathlib.Core.List.{List, [], _∷_, _++_, append-nil, append-assoc}
-use Prim.Native.Nat.{ℕ, zero, suc, _+_, _≤_, _<_}
+use Prim.Native.Nat.{ℕ, suc, _+_, _≤_}
 use native.Mathlib.Omega.{arith}
 use lib.Dec.{eqb}
-use lib.ListN.{length, getD, length-append}
+use lib.ListN.{length, length-append}
 use borrow.Author.Tests.{eqb-true, eqb-false, ne-eqb}
 use Rattle.laws.specs.Cases.{decide}
 use Rattle.refusals.specs.Refusals.{Outcome, result, refused, refusal}
-use Rattle.hextext.specs.Record.{recordBytes, dataOf, judge}
+use Rattle.hextext.specs.Record.{recordBytes, dataOf}
 use Rattle.hextext.specs.Text.{bare, after, reading}
 use Rattle.hextext.specs.declared.Record.{Record}
 use Rattle.hextext.specs.declared.Record.the-variants.{Data, End, Fault}
 use Rattle.hexformat.specs.Format.{Fields, Form, Balanced, IsData, IsEnd, DataLines, none, next, GoodText}
 use Rattle.hexformat.specs.Faults.{NoLineFeed, WholeLine, Breaks, noForm, notBalanced, neither, noRoom, Refuses, stops, breaks, goesOn}
 use Rattle.hexformat.specs.SpelledLaws.{spelled-small}
-use Rattle.hexformat.specs.ReadingLaws.{Without, without-append, without-one, reading-line, reading-form, judge-balanced, judge-unbalanced}
+use Rattle.hexformat.specs.ReadingLaws.{without-append, without-one, reading-line, reading-form, judge-balanced, judge-unbalanced}
 use Rattle.hexformat.specs.JudgedLaws.{Judged, more, end, fault, judged, judge-noForm, typed-data, typed-full, typed-end, typed-other}
 
 -- what the format says of an answer

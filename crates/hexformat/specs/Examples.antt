@@ -1,9 +1,9 @@
 -- Worked examples: document 01's bytes 51 01, and for each theorem with hypotheses a case that meets them.
-use mathlib.Core.Path.{_≡_, refl, sym, _∙_}
+use mathlib.Core.Path.{_≡_, refl, _∙_}
 use mathlib.Core.Bool.{true}
 use mathlib.Core.Logic.{_⊎_}
 use mathlib.Core.List.{List, [], _∷_, _++_}
-use Prim.Native.Nat.{ℕ, zero, suc, _*_, _≤_, _<_}
+use Prim.Native.Nat.{ℕ, zero, suc, _*_, _≤_}
 use native.Mathlib.Omega.{arith}
 use lib.ListN.{length, replicate}
 use Rattle.laws.specs.Sums.{total}
@@ -16,13 +16,13 @@ use Rattle.hextext.specs.Written.{hexDigit, spell, checksum, headAndData, recor
 use Rattle.hexformat.specs.Characters.{characters}
 use Rattle.hexformat.specs.Format.{upperCase, LineEnd, lf, crlf, Fields, bytes, Form, Balanced, none, next, GoodText, AllBytes}
 use Rattle.hexformat.specs.Faults.{WholeLine, Refuses, breaks, notBalanced}
-use Rattle.hexformat.specs.Damage.{IsRefused, SameDigit, WholeLines, none as no-lines, LastData}
+use Rattle.hexformat.specs.Damage.{IsRefused, SameDigit, SpareReturn, WholeLines, none as no-lines, LastData}
 use Rattle.hexformat.specs.SpelledLaws.{spelled-of}
 use Rattle.hexformat.specs.ReadingLaws.{form-whole}
 use Rattle.hexformat.specs.Agrees.{read-exactly, refused-exactly, refused-known}
 use Rattle.hexformat.specs.GoodTexts.{one-image, image-is-bytes, text-is-lines, text-length-bound, read-length-bound}
 use Rattle.hexformat.specs.RoundTrip.{written-is-good, written-reads-back, is-written, there-and-back, length-of-full-records, length-with-a-rest}
-use Rattle.hexformat.specs.Damaged.{one-character, one-digit, cut-off, line-lost, line-doubled, lines-exchanged}
+use Rattle.hexformat.specs.Damaged.{character-replaced, digit-changed, character-lost, character-added, cut-off, line-lost, line-doubled, lines-exchanged}
 
 -- ---- the starred example
 
@@ -147,15 +147,24 @@ length-with-a-rest-met : length (textOf image) ≡ 28
 length-with-a-rest-met = length-with-a-rest image 0 2 (omega arith) (omega arith) refl
 
 -- A replaced by a
-one-character-met : let other : List ℕ = characters ":020000005101aC\n:00000001FF\n" in
+character-replaced-met : let other : List ℕ = characters ":020000005101aC\n:00000001FF\n" in
     IsRefused (readText 4096 other) ⊎ (SameDigit 65 97 × (readText 4096 other ≡ result image))
-one-character-met = one-character 4096 image (characters ":020000005101") (characters "C\n:00000001FF\n") 65 97 good (λ e. omega arith)
+character-replaced-met = character-replaced 4096 image (characters ":020000005101") (characters "C\n:00000001FF\n") 65 97 good (λ e. omega arith)
 
 -- C changed to D
-one-digit-met : IsRefused (readText 4096 (characters ":020000005101AD\n:00000001FF\n"))
-one-digit-met =
-    one-digit 4096 image (characters ":020000005101A") (characters "\n:00000001FF\n") 67 68 12 13 good
+digit-changed-met : IsRefused (readText 4096 (characters ":020000005101AD\n:00000001FF\n"))
+digit-changed-met =
+    digit-changed 4096 image (characters ":020000005101A") (characters "\n:00000001FF\n") 67 68 12 13 good
     (upperCase (omega arith) (omega arith) refl) (upperCase (omega arith) (omega arith) refl) (λ e. omega arith)
+
+-- without the last LF, and with one more
+character-lost-met : let other : List ℕ = characters ":020000005101AC\n:00000001FF" in
+    IsRefused (readText 4096 other) ⊎ (SpareReturn 10 [] × (readText 4096 other ≡ result image))
+character-lost-met = character-lost 4096 image (characters ":020000005101AC\n:00000001FF") [] 10 good
+
+character-added-met : let other : List ℕ = characters ":020000005101AC\n:00000001FF\n\n" in
+    IsRefused (readText 4096 other) ⊎ (SpareReturn 10 [] × (readText 4096 other ≡ result image))
+character-added-met = character-added 4096 image text [] 10 good
 
 cut-off-met : IsRefused (readText 4096 (characters ":020000005101AC\n:00000001FF"))
 cut-off-met = cut-off 4096 image (characters ":020000005101AC\n:00000001FF") [] 10 good

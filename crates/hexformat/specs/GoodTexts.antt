@@ -1,12 +1,12 @@
 -- What a good text is like.
 use mathlib.Core.Path.{_≡_, sym, _∙_}
 use mathlib.Core.List.{List, [], _∷_, _++_, append-nil, append-assoc}
-use Prim.Native.Nat.{ℕ, zero, suc, _+_, _*_, _≤_, min}
+use Prim.Native.Nat.{ℕ, suc, _+_, _*_, _≤_}
 use native.Mathlib.Omega.{arith}
 use lib.ListN.{length, length-append}
 use Rattle.refusals.specs.Refusals.{result}
 use Rattle.hextext.specs.Text.{readText}
-use Rattle.hexformat.specs.Format.{LineEnd, lf, crlf, Fields, bytes, Form, DataLines, none, next, GoodText, AllBytes}
+use Rattle.hexformat.specs.Format.{LineEnd, lf, crlf, Fields, Form, DataLines, none, next, GoodText, AllBytes}
 use Rattle.hexformat.specs.Faults.{WholeLine}
 use Rattle.hexformat.specs.Damage.{WholeLines, none as no-lines, more}
 use Rattle.hexformat.specs.BytesLaws.{bytes-nil, bytes-append, bytes-front}

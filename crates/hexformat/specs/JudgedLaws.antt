@@ -1,22 +1,22 @@
 -- A line judged, both ways: what the judgement of a record is, and what record a judgement tells of.
-use mathlib.Core.Path.{_≡_, refl, sym, ap, _∙_, subst}
+use mathlib.Core.Path.{_≡_, sym, ap, _∙_}
 use mathlib.Core.Bool.{Bool, true, false, cond, _&&_}
 use mathlib.Core.List.{List, [], _∷_, _++_, append-nil, append-assoc}
-use Prim.Native.Nat.{ℕ, zero, suc, _+_, _-_, _*_, _%_, _/_, _≤_, _<_}
+use Prim.Native.Nat.{ℕ, suc, _+_, _-_, _*_, _%_, _/_, _≤_, _<_}
 use native.Mathlib.Omega.{arith}
 use lib.Dec.{eqb, ltb, leb}
 use lib.ListN.{length, take, drop, getD, length-append, take-append-drop, drop-of-length-le}
 use lib.Seq.{drop-cons, length-take-le, take-append-seam}
-use borrow.Author.Tests.{eq-eqb, ne-eqb, lt-ltb, le-leb, lt-leb, eqb-true, eqb-false, ltb-true}
+use borrow.Author.Tests.{eq-eqb, lt-ltb, le-leb, lt-leb, eqb-true, eqb-false, ltb-true}
 use Rattle.laws.specs.Cases.{split, decide, never, both-left, both-right}
 use Rattle.laws.specs.Sums.{total}
-use Rattle.hextext.specs.Record.{digit, allDigits, bytesOf, recordBytes, countOf, dataOf, formed, summed, typed, judge}
+use Rattle.hextext.specs.Record.{allDigits, bytesOf, recordBytes, countOf, dataOf, formed, typed, judge}
 use Rattle.hextext.specs.RecordLaws.{judge-unformed}
 use Rattle.hextext.specs.Text.{bare}
 use Rattle.hextext.specs.declared.Record.{Record}
 use Rattle.hextext.specs.declared.Record.the-variants.{Data, End, Fault}
 use Rattle.hexformat.specs.Format.{Spelled, LineEnd, lf, crlf, Fields, bytes, Form, Balanced, IsData, IsEnd}
-use Rattle.hexformat.specs.Faults.{NoLineFeed, WholeLine, Breaks, noForm, notBalanced, neither, noRoom}
+use Rattle.hexformat.specs.Faults.{Breaks, noForm, notBalanced, neither, noRoom}
 use Rattle.hexformat.specs.SpelledLaws.{spelled-bytes, spelled-of, spelled-small}
 use Rattle.hexformat.specs.ReadingLaws.{bare-without, bare-return, data-bytes, formed-spelled, colon-without, judge-balanced, judge-unbalanced}
 

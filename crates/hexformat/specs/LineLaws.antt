@@ -1,18 +1,18 @@
 -- Two good texts, of which one is the other with a line lost, doubled, or exchanged with its neighbour.
-use mathlib.Core.Path.{_≡_, refl, sym, ap, _∙_, subst}
+use mathlib.Core.Path.{_≡_, refl, sym, ap, _∙_}
 use mathlib.Core.Bool.{true, false}
 use mathlib.Core.List.{List, [], _∷_, _++_, append-nil, append-assoc}
 use Prim.Native.Nat.{ℕ, zero, suc, _+_, _≤_, _<_}
 use native.Mathlib.Omega.{arith}
 use lib.Dec.{eqb}
-use lib.ListN.{length, getD, length-append}
+use lib.ListN.{length, length-append}
 use borrow.Author.Tests.{eqb-true, eqb-false}
 use Rattle.laws.specs.Cases.{decide}
 use Rattle.refusals.specs.Refusals.{result, refused, refusal}
-use Rattle.hextext.specs.Record.{recordBytes, dataOf, judge}
+use Rattle.hextext.specs.Record.{recordBytes, dataOf}
 use Rattle.hextext.specs.Text.{bare, after, reading}
 use Rattle.hextext.specs.declared.Record.{Record}
-use Rattle.hextext.specs.declared.Record.the-variants.{Data, End, Fault}
+use Rattle.hextext.specs.declared.Record.the-variants.{Fault}
 use Rattle.hexformat.specs.Format.{Fields, Form, Balanced, IsData, IsEnd, GoodText}
 use Rattle.hexformat.specs.Faults.{NoLineFeed, WholeLine}
 use Rattle.hexformat.specs.Damage.{WholeLines, none, more, LastData}

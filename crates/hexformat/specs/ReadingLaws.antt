@@ -1,22 +1,21 @@
 -- The reader at a line: how the characters of a line are gathered, and what it makes of a record.
-use mathlib.Core.Path.{_≡_, refl, sym, ap, _∙_, subst}
-use mathlib.Core.Bool.{Bool, true, false}
+use mathlib.Core.Path.{_≡_, sym, ap, _∙_}
+use mathlib.Core.Bool.{true}
 use mathlib.Core.List.{List, [], _∷_, _++_, append-nil, append-assoc}
-use Prim.Native.Nat.{ℕ, zero, suc, _+_, _-_, _*_, _%_, _/_, _≤_, _<_}
+use Prim.Native.Nat.{ℕ, zero, suc, _+_, _-_, _*_, _%_, _/_, _<_}
 use native.Mathlib.Omega.{arith}
-use lib.Dec.{eqb}
-use lib.ListN.{length, take, getD, length-append, List·getD-eq-default}
+use lib.ListN.{length, getD, length-append, List·getD-eq-default}
 use lib.Seq.{getD-append-seam, take-append-seam}
-use borrow.Author.Tests.{eq-eqb, ne-eqb, eqb-true}
+use borrow.Author.Tests.{eq-eqb, ne-eqb}
 use Rattle.laws.specs.Cases.{split}
 use Rattle.laws.specs.Sums.{total}
 use Rattle.refusals.specs.declared.Refusal.{Refusal}
-use Rattle.refusals.specs.Refusals.{Outcome, result, refused}
-use Rattle.hextext.specs.Record.{digit, allDigits, bytesOf, recordBytes, dataOf, formed, summed, typed, judge}
+use Rattle.refusals.specs.Refusals.{result, refused}
+use Rattle.hextext.specs.Record.{allDigits, recordBytes, dataOf, formed, summed, typed, judge}
 use Rattle.hextext.specs.RecordLaws.{digit-low, allDigits-at}
 use Rattle.hextext.specs.Text.{bare, after, reading}
 use Rattle.hextext.specs.declared.Record.{Record}
-use Rattle.hextext.specs.declared.Record.the-variants.{Data, End, Fault}
+use Rattle.hextext.specs.declared.Record.the-variants.{Fault}
 use Rattle.hexformat.specs.Format.{Spelled, LineEnd, lf, crlf, Fields, bytes, Form, Balanced}
 use Rattle.hexformat.specs.Faults.{NoLineFeed, WholeLine}
 use Rattle.hexformat.specs.SpelledLaws.{spelled-digits, spelled-bytes, spelled-length}

@@ -1,7 +1,7 @@
 -- What is written of an image is a good text of it, of the right length, and reads back the same.
-use mathlib.Core.Path.{_≡_, refl, sym, ap, _∙_}
+use mathlib.Core.Path.{_≡_, ap, _∙_}
 use mathlib.Core.Bool.{true, false}
-use mathlib.Core.List.{List, [], _∷_, _++_}
+use mathlib.Core.List.{List, _++_}
 use Prim.Native.Nat.{ℕ, _+_, _-_, _*_, _≤_, _<_}
 use native.Mathlib.Omega.{arith}
 use lib.Dec.{leb}
@@ -11,7 +11,7 @@ use borrow.Author.Tests.{leb-true, le-leb}
 use Rattle.laws.specs.Cases.{decide}
 use Rattle.refusals.specs.declared.Filled.{Filled}
 use Rattle.refusals.specs.declared.Filled.the-variants.{Length}
-use Rattle.refusals.specs.Refusals.{result, answerTo, heldAfter, Fills}
+use Rattle.refusals.specs.Refusals.{result, Fills}
 use Rattle.hextext.specs.Text.{readText}
 use Rattle.hextext.specs.Written.{recordText, textOf, textLength, writeImage}
 use Rattle.hexformat.specs.Format.{AllBytes, GoodText, none}

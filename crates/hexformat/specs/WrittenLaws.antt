@@ -1,19 +1,16 @@
 -- The text that is written: its records, and how long it is.
-use mathlib.Core.Path.{_≡_, refl, sym, ap, _∙_, subst}
-use mathlib.Core.Bool.{true, false}
+use mathlib.Core.Path.{_≡_, refl, ap, _∙_, subst}
 use mathlib.Core.List.{List, [], _∷_, _++_, append-nil, append-assoc}
-use Prim.Native.Nat.{ℕ, zero, suc, _+_, _-_, _*_, _%_, _/_, _≤_, _<_}
+use Prim.Native.Nat.{ℕ, zero, suc, _+_, _*_, _%_, _/_, _≤_, _<_}
 use native.Mathlib.Omega.{arith}
 use native.Mathlib.Nat.{le-of-lt}
-use lib.Dec.{eqb, ltb}
-use lib.ListN.{length, take, drop, getD, length-append, length-take, length-drop, take-append-drop, drop-of-length-le}
-use lib.Seq.{getD-drop, length-take-le}
+use lib.ListN.{length, take, drop, length-append, length-take, length-drop, take-append-drop, drop-of-length-le}
 use borrow.Author.Tests.{lt-ltb, le-ltb, ne-eqb}
 use Rattle.laws.specs.Cases.{split}
 use Rattle.laws.specs.Sums.{total}
 use Rattle.hextext.specs.Written.{hexDigit, spell, checksum, headAndData, recordText, writing, textOf, textLength}
 use Rattle.hexformat.specs.BytesLaws.{bytes-nil, bytes-cons, bytes-append, bytes-take, bytes-drop}
-use Rattle.hexformat.specs.Format.{Digit, decimal, upperCase, Spelled, nothing, pair, lf, Fields, bytes, Form, Balanced, IsData, IsEnd, DataLines, none, next, GoodText, AllBytes}
+use Rattle.hexformat.specs.Format.{Digit, decimal, upperCase, Spelled, nothing, pair, lf, Fields, Form, Balanced, DataLines, next, GoodText, AllBytes}
 
 -- ---- a record
 
