@@ -57,12 +57,12 @@ module _ (size : ℕ) (image before rest : List ℕ) where
       → IsRefused (readText size (before ++ rest)) ⊎ (SpareReturn character rest × (readText size (before ++ rest) ≡ result image))
   character-lost c good =
       refused-or-same size (before ++ rest) image
-      (λ other g. let s = one-longer other image before rest c g good in (s .0, sym (s .1)))
+      (λ other g. let s = one-longer image other before rest c good g in (s .0, sym (s .1)))
 
   -- a good text with one character more is refused; or that is a CR directly before an LF, and the text is read as the same image
   pub character-added : (character : ℕ) → GoodText image (before ++ rest)
       → IsRefused (readText size (before ++ character ∷ rest)) ⊎ (SpareReturn character rest × (readText size (before ++ character ∷ rest) ≡ result image))
-  character-added c good = refused-or-same size (before ++ c ∷ rest) image (λ other g. one-longer image other before rest c good g)
+  character-added c good = refused-or-same size (before ++ c ∷ rest) image (λ other g. one-longer other image before rest c g good)
 
 -- a good text cut off anywhere before its end is refused
 pub cut-off : (size : ℕ) (image front rest : List ℕ) (next : ℕ) → GoodText image (front ++ next ∷ rest) → IsRefused (readText size front)

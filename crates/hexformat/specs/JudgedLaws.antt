@@ -17,8 +17,9 @@ use Rattle.hextext.specs.declared.Record.{Record}
 use Rattle.hextext.specs.declared.Record.the-variants.{Data, End, Fault}
 use Rattle.hexformat.specs.Format.{Spelled, LineEnd, lf, crlf, Fields, bytes, Form, Balanced, IsData, IsEnd}
 use Rattle.hexformat.specs.Faults.{Breaks, noForm, notBalanced, neither, noRoom}
+use Rattle.hexformat.specs.BareLaws.{snoc, bare-without, bare-return}
 use Rattle.hexformat.specs.SpelledLaws.{spelled-bytes, spelled-of, spelled-small}
-use Rattle.hexformat.specs.ReadingLaws.{bare-without, bare-return, data-bytes, formed-spelled, colon-without, judge-balanced, judge-unbalanced}
+use Rattle.hexformat.specs.ReadingLaws.{data-bytes, formed-spelled, colon-without, judge-balanced, judge-unbalanced}
 
 -- ---- type, count, address and room
 
@@ -86,13 +87,6 @@ typed-other {at} {r} small v w room = of (kind-of at r small)
     of (isNeither p q e) = e room
 
 -- ---- the record of a formed line
-
--- a list of n + 1 elements is n and one more
-pub snoc : (l : List ℕ) (n : ℕ) → length l ≡ n + 1 → l ≡ take n l ++ getD l n 0 ∷ []
-snoc l n e =
-    let h : length l ≤ suc n = omega arith in
-    let d : drop n l ≡ getD l n 0 ∷ [] = rw (drop-cons l n 0 (omega arith), drop-of-length-le l h) in
-    sym (take-append-drop n l) ∙ ap (λ (m : List ℕ). take n l ++ m) d
 
 fieldsOf : List ℕ → Fields
 fieldsOf b = record { type = getD b 3 0; address = getD b 1 0 * 256 + getD b 2 0; contents = dataOf b; checksum = getD b (4 + countOf b) 0 }

@@ -10,7 +10,7 @@ use borrow.Author.Tests.{eq-eqb, ne-eqb}
 use Rattle.laws.specs.Cases.{split}
 use Rattle.laws.specs.Sums.{total}
 use Rattle.refusals.specs.declared.Refusal.{Refusal}
-use Rattle.refusals.specs.Refusals.{result, refused}
+use Rattle.refusals.specs.Refusals.{Outcome, result, refused}
 use Rattle.hextext.specs.Record.{allDigits, recordBytes, dataOf, formed, summed, typed, judge}
 use Rattle.hextext.specs.RecordLaws.{digit-low, allDigits-at}
 use Rattle.hextext.specs.Text.{bare, after, reading}
@@ -18,6 +18,7 @@ use Rattle.hextext.specs.declared.Record.{Record}
 use Rattle.hextext.specs.declared.Record.the-variants.{Fault}
 use Rattle.hexformat.specs.Format.{Spelled, LineEnd, lf, crlf, Fields, bytes, Form, Balanced}
 use Rattle.hexformat.specs.Faults.{NoLineFeed, WholeLine}
+use Rattle.hexformat.specs.BareLaws.{Without, without-append, without-one, bare-without, bare-return}
 use Rattle.hexformat.specs.SpelledLaws.{spelled-digits, spelled-bytes, spelled-length}
 
 -- ---- two answers
@@ -30,37 +31,18 @@ same-result e = cc
 
 -- ---- gathering a line
 
--- no place of the list holds c
-abbrev pub Without : ℕ → List ℕ → Type 0
-Without c l = (i : ℕ) → getD l i 0 ≡ c → ⊥
+-- the reader at the LF of a line
+abbrev pub ended : (room line : ℕ) (image l text : List ℕ) → Outcome
+ended room line image l text =
+    after (judge room (length image) (bare l)) line image text (reading room (line + 1) (image ++ dataOf (recordBytes (bare l))) [] text)
 
-pub without-append : (c : ℕ) (l m : List ℕ) → Without c l → Without c m → Without c (l ++ m)
-without-append c [] m v w i e = w i e
-without-append c (b ∷ l) m v w zero e = v 0 e
-without-append c (b ∷ l) m v w (suc i) e = without-append c l m (λ j. v (suc j)) w i e
-
-pub without-one : (c b : ℕ) → 0 < c → (b ≡ c → ⊥) → Without c (b ∷ [])
-without-one c b h n zero e = n e
-without-one c b h n (suc i) e = omega arith
-
--- the reader at a line without LF inside
-pub reading-line : (room line : ℕ) (image passed l text : List ℕ) → NoLineFeed l → reading room line image passed (l ++ 10 ∷ text)
-    ≡ after (judge room (length image) (bare (passed ++ l))) line image text (reading room (line + 1) (image ++ dataOf (recordBytes (bare (passed ++ l)))) [] text)
+pub reading-line : (room line : ℕ) (image passed l text : List ℕ) → NoLineFeed l
+    → reading room line image passed (l ++ 10 ∷ text) ≡ ended room line image (passed ++ l) text
 unfolding reading
 reading-line room line image passed [] text w = rw (append-nil passed)
 reading-line room line image passed (c ∷ l) text w =
     let q : (passed ++ c ∷ []) ++ l ≡ passed ++ c ∷ l = append-assoc passed (c ∷ []) l in
     rw (ne-eqb c 10 (w 0), ← q) (reading-line room line image (passed ++ c ∷ []) l text (λ i. w (suc i)))
-
-pub bare-without : (l : List ℕ) → Without 13 l → bare l ≡ l
-unfolding bare
-bare-without l w = rw (ne-eqb (getD l (length l - 1) 0) 13 (w (length l - 1)))
-
-pub bare-return : (l : List ℕ) → bare (l ++ 13 ∷ []) ≡ l
-unfolding bare
-bare-return l =
-    let q : length (l ++ 13 ∷ []) - 1 ≡ length l = omega (arith, length-append l (13 ∷ [])) in
-    rw (q, getD-append-seam l 13 [] 0, take-append-seam l (13 ∷ []))
 
 -- ---- a line in the form of a record
 
