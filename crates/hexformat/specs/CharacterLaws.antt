@@ -11,7 +11,7 @@ use borrow.Author.Tests.{ne-eqb, eqb-true, eqb-false}
 use Rattle.laws.specs.Cases.{decide, never}
 use Rattle.laws.specs.Sums.{total}
 use Rattle.refusals.specs.Refusals.{Outcome, result}
-use Rattle.hextext.specs.Record.{digit, allDigits, bytesOf, recordBytes, countOf, dataOf, formed, summed, judge}
+use Rattle.hextext.specs.Record.{digit, bytesOf, recordBytes, countOf, dataOf, formed, summed, judge}
 use Rattle.hextext.specs.RecordLaws.{digit-low, digit-between, allDigits-at, formed-colon, formed-digits, formed-length, formed-long}
 use Rattle.hextext.specs.Text.{bare, after, reading}
 use Rattle.hextext.specs.declared.Record.{Record}

@@ -5,8 +5,8 @@ use mathlib.Core.List.{List, [], _∷_, _++_, append-nil, append-assoc}
 use Prim.Native.Nat.{ℕ, suc, _+_, _-_, _*_, _%_, _/_, _≤_, _<_}
 use native.Mathlib.Omega.{arith}
 use lib.Dec.{eqb, ltb, leb}
-use lib.ListN.{length, take, drop, getD, length-append, take-append-drop, drop-of-length-le}
-use lib.Seq.{drop-cons, length-take-le, take-append-seam}
+use lib.ListN.{length, take, getD, length-append}
+use lib.Seq.{length-take-le, take-append-seam}
 use borrow.Author.Tests.{eq-eqb, lt-ltb, le-leb, lt-leb, eqb-true, eqb-false, ltb-true}
 use Rattle.laws.specs.Cases.{split, decide, never, both-left, both-right}
 use Rattle.laws.specs.Sums.{total}

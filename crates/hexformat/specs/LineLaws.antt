@@ -148,43 +148,47 @@ module _ (room line : ℕ) (x y z rest : List ℕ) where
 
 -- ---- good texts
 
--- the reader at one line of a text
-record Found (room : ℕ) (image before line rest : List ℕ) : Type 0 where
+-- two good texts with the same lines before, the first at its next line, the second where that begins
+record Found (image other line rest text : List ℕ) : Type 0 where
   number : ℕ
   held : List ℕ
-  same : (text : List ℕ) → reading room 1 [] [] (before ++ text) ≡ reading room number held [] text
-  is : LineAt room number held line rest image
+  first-is : LineAt (length image + length other) number held line rest image
+  second-is : reading (length image + length other) number held [] text ≡ result other
 
-found : (room : ℕ) (image rest : List ℕ) {before line : List ℕ} → WholeLines before → WholeLine line → GoodText image (before ++ line ++ rest) → length image ≤ room
-    → Found room image before line rest
-found room image rest {before} {line} lines w g h =
-    let e : reading room 1 [] [] (before ++ (line ++ rest)) ≡ result image = rw (append-assoc before line rest) at (reads-good room g h) in
+found : (image other rest text : List ℕ) {before line : List ℕ} → WholeLines before → WholeLine line
+    → GoodText image (before ++ (line ++ rest)) → GoodText other (before ++ text) → Found image other line rest text
+found image other rest text {before} {line} lines w g g′ =
+    let room : ℕ = length image + length other in
+    let e = reads-good room g (omega arith) in
     let p = past room 1 [] (line ++ rest) image lines (omega (arith, length-append line rest, whole-some w)) e in
     record {
       number = p .line′;
       held = p .image′;
-      same = p .same;
-      is = line-at room (p .line′) (p .image′) rest image w (sym (p .same (line ++ rest)) ∙ e);
+      first-is = line-at room (p .line′) (p .image′) rest image w (sym (p .same (line ++ rest)) ∙ e);
+      second-is = sym (p .same text) ∙ reads-good room g′ (omega arith);
     }
 
 module _ (image other before rest : List ℕ) (lines : WholeLines before) where
   abbrev room : ℕ
   room = length image + length other
 
-  -- two good texts of which one lacks a line of the other: the line held the image's last data
+  -- two good texts, one of which lacks a line: it held the last data of the other's image
   pub one-lost : (line : List ℕ) → WholeLine line → GoodText image (before ++ line ++ rest) → GoodText other (before ++ rest) → LastData image line rest other
   one-lost line w g g′ =
-      let f = found room image rest lines w g (omega arith) in
-      lost room (f .number) (f .held) image other rest (f .is) (sym (f .same rest) ∙ reads-good room g′ (omega arith))
+      let f = found image other rest rest lines w (rw (append-assoc before line rest) at g) g′ in
+      lost room (f .number) (f .held) image other rest (f .first-is) (f .second-is)
 
+  -- no good text is another with one line doubled
   pub one-doubled : (line : List ℕ) → WholeLine line → GoodText image (before ++ line ++ rest) → GoodText other (before ++ line ++ line ++ rest) → ⊥
   one-doubled line w g g′ =
-      let f = found room image rest lines w g (omega arith) in
       let t : before ++ line ++ line ++ rest ≡ before ++ (line ++ (line ++ rest)) = simp append-assoc in
-      doubled room (f .number) (f .held) image other rest w (f .is) (sym (f .same (line ++ (line ++ rest))) ∙ rw t at (reads-good room g′ (omega arith)))
+      let f = found image other rest (line ++ (line ++ rest)) lines w (rw (append-assoc before line rest) at g) (rw t at g′) in
+      doubled room (f .number) (f .held) image other rest w (f .first-is) (f .second-is)
 
+  -- no good text is another with two neighbouring lines exchanged
   pub two-exchanged : (line after : List ℕ) → WholeLine line → WholeLine after → GoodText image (before ++ line ++ after ++ rest) → GoodText other (before ++ after ++ line ++ rest) → ⊥
   two-exchanged line after v w g g′ =
-      let f = found room image (after ++ rest) lines v (rw (append-assoc (before ++ line) after rest) at g) (omega arith) in
+      let s : before ++ line ++ after ++ rest ≡ before ++ (line ++ (after ++ rest)) = simp append-assoc in
       let t : before ++ after ++ line ++ rest ≡ before ++ (after ++ (line ++ rest)) = simp append-assoc in
-      exchanged room (f .number) (f .held) image other rest v w (f .is) (sym (f .same (after ++ (line ++ rest))) ∙ rw t at (reads-good room g′ (omega arith)))
+      let f = found image other (after ++ rest) (after ++ (line ++ rest)) lines v (rw s at g) (rw t at g′) in
+      exchanged room (f .number) (f .held) image other rest v w (f .first-is) (f .second-is)
