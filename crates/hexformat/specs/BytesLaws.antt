@@ -1,15 +1,15 @@
 -- Lists of bytes.
 use mathlib.Core.List.{List, [], _∷_, _++_}
-use Prim.Native.Nat.{ℕ, zero, suc, _+_, _<_}
+use Prim.Native.Nat.{ℕ, zero, suc, _+_}
 use native.Mathlib.Omega.{arith}
 use lib.ListN.{take, drop}
 use lib.Seq.{getD-drop}
-use Rattle.hexformat.specs.Format.{AllBytes}
+use Rattle.hexformat.specs.Format.{IsByte, AllBytes}
 
 pub bytes-nil : AllBytes []
 bytes-nil i = omega arith
 
-pub bytes-cons : (b : ℕ) (l : List ℕ) → b < 256 → AllBytes l → AllBytes (b ∷ l)
+pub bytes-cons : (b : ℕ) (l : List ℕ) → IsByte b → AllBytes l → AllBytes (b ∷ l)
 bytes-cons b l h w zero = h
 bytes-cons b l h w (suc i) = w i
 

@@ -86,6 +86,8 @@ pub record GoodText (image text : List ℕ) : Type 0 where
 
 -- ---- an image
 
--- each element is a byte
+abbrev pub IsByte : ℕ → Type 0
+IsByte n = n < 256
+
 abbrev pub AllBytes : List ℕ → Type 0
-AllBytes image = (i : ℕ) → getD image i 0 < 256
+AllBytes image = (i : ℕ) → IsByte (getD image i 0)

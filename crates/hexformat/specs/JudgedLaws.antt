@@ -39,7 +39,7 @@ module _ {at : ℕ} {r : Fields} (d : IsData at r) (room : ℕ) where
 
 pub typed-end : {r : Fields} → IsEnd r → (room at : ℕ) → judgedFields room at r ≡ End
 unfolding typed
-typed-end {r} d room at = rw (d .type-01, d .count-0, d .address-0)
+typed-end d room at = simp (d .type-01, d .count-0, d .address-0)
 
 -- a record is data from an address on, the end, or neither
 data Kind (at : ℕ) (r : Fields) : Type 0 where
