@@ -10,8 +10,8 @@ use lib.Seq.{length-take-le, take-append-seam}
 use borrow.Author.Tests.{eq-eqb, lt-ltb, le-leb, lt-leb, eqb-true, eqb-false, ltb-true}
 use Rattle.laws.specs.Cases.{split, decide, never, both-left, both-right}
 use Rattle.laws.specs.Sums.{total}
-use Rattle.hextext.specs.Record.{allDigits, bytesOf, recordBytes, countOf, dataOf, formed, typed, judge}
-use Rattle.hextext.specs.RecordLaws.{judge-unformed}
+use Rattle.hextext.specs.Record.{bytesOf, recordBytes, countOf, dataOf, formed, typed, judge}
+use Rattle.hextext.specs.RecordLaws.{formed-long, formed-colon, formed-digits, formed-length, judge-unformed}
 use Rattle.hextext.specs.Text.{bare}
 use Rattle.hextext.specs.declared.Record.{Record}
 use Rattle.hextext.specs.declared.Record.the-variants.{Data, End, Fault}
@@ -47,6 +47,9 @@ data Kind (at : ℕ) (r : Fields) : Type 0 where
   isEnd : IsEnd r → Kind at r
   isNeither : (IsData at r → ⊥) → (IsEnd r → ⊥) → ((room : ℕ) → judgedFields room at r ≡ Fault 3) → Kind at r
 
+all-three : (a b c : Bool) → (a && (b && c)) ≡ true → (a ≡ true) × (b ≡ true) × (c ≡ true)
+all-three a b c e = let f = both-right a (b && c) e in (both-left a (b && c) e, both-left b c f, both-right b c f)
+
 other-fault : (a b c : Bool) (x : Record) → (a && b) ≡ false → c ≡ false → cond a (cond b x (Fault 3)) (cond c End (Fault 3)) ≡ Fault 3
 other-fault true b c x p q = rw p
 other-fault false b c x p q = rw q
@@ -55,28 +58,21 @@ kind-of : (at : ℕ) (r : Fields) → length (r .contents) ≤ 255 → Kind at r
 unfolding typed
 kind-of at r small =
     let n : ℕ = length (r .contents) in
-    decide (eqb (r .type) 0 && (ltb 0 n && eqb (r .address) at))
+    let data-test : Bool = ltb 0 n && eqb (r .address) at in
+    let end-test : Bool = eqb (r .type) 1 && (eqb n 0 && eqb (r .address) 0) in
+    decide (eqb (r .type) 0 && data-test)
     (λ p.
-    let q = both-right (eqb (r .type) 0) (ltb 0 n && eqb (r .address) at) p in
-    isData (record {
-      type-00 = eqb-true (r .type) 0 (both-left (eqb (r .type) 0) (ltb 0 n && eqb (r .address) at) p);
-      some = ltb-true 0 n (both-left (ltb 0 n) (eqb (r .address) at) q);
-      at-most = small;
-      starts = eqb-true (r .address) at (both-right (ltb 0 n) (eqb (r .address) at) q);
-    }))
-    (λ p. decide (eqb (r .type) 1 && (eqb n 0 && eqb (r .address) 0))
-    (λ o.
-    let q = both-right (eqb (r .type) 1) (eqb n 0 && eqb (r .address) 0) o in
-    isEnd (record {
-      type-01 = eqb-true (r .type) 1 (both-left (eqb (r .type) 1) (eqb n 0 && eqb (r .address) 0) o);
-      count-0 = eqb-true n 0 (both-left (eqb n 0) (eqb (r .address) 0) q);
-      address-0 = eqb-true (r .address) 0 (both-right (eqb n 0) (eqb (r .address) 0) q);
-    }))
-    (λ o.
+    let t = all-three (eqb (r .type) 0) (ltb 0 n) (eqb (r .address) at) p in
+    isData (record { type-00 = eqb-true (r .type) 0 (t .0); some = ltb-true 0 n (t .1); at-most = small; starts = eqb-true (r .address) at (t .2) }))
+    (λ p. decide end-test
+    (λ q.
+    let t = all-three (eqb (r .type) 1) (eqb n 0) (eqb (r .address) 0) q in
+    isEnd (record { type-01 = eqb-true (r .type) 1 (t .0); count-0 = eqb-true n 0 (t .1); address-0 = eqb-true (r .address) 0 (t .2) }))
+    (λ q.
     isNeither
     (λ (d : IsData at r). never (sym p ∙ rw (d .type-00, lt-ltb 0 n (d .some), eq-eqb (r .address) at (d .starts))))
-    (λ (d : IsEnd r). never (sym o ∙ rw (d .type-01, d .count-0, d .address-0)))
-    (λ room. other-fault (eqb (r .type) 0) (ltb 0 n && eqb (r .address) at) (eqb (r .type) 1 && (eqb n 0 && eqb (r .address) 0)) (cond (leb (at + n) room) (Data n) (Fault 4)) p o)))
+    (λ (d : IsEnd r). never (sym q ∙ rw (d .type-01, d .count-0, d .address-0)))
+    (λ room. other-fault (eqb (r .type) 0) data-test end-test (cond (leb (at + n) room) (Data n) (Fault 4)) p q)))
 
 pub typed-other : {at : ℕ} {r : Fields} → length (r .contents) ≤ 255 → (IsData at r → ⊥) → (IsEnd r → ⊥) → (room : ℕ) → judgedFields room at r ≡ Fault 3
 typed-other {at} {r} small v w room = of (kind-of at r small)
@@ -118,17 +114,16 @@ length-pairs (a ∷ []) n e = absurd (omega arith)
 length-pairs (a ∷ b ∷ l) n e = omega (arith, length-pairs l (n - 1) (omega arith))
 
 formed-seen : (l : List ℕ) → formed l ≡ true → Seen l
-unfolding formed
-formed-seen [] e = never e
+unfolding recordBytes
+formed-seen [] e = absurd (omega (arith, formed-long [] e))
 formed-seen (c ∷ l) e =
     let n : ℕ = countOf (bytesOf l) + 5 in
-    let rest = both-right (eqb c 58) (allDigits l && eqb (length l) (n * 2)) e in
-    let long : length l ≡ n * 2 = eqb-true (length l) (n * 2) (both-right (allDigits l) (eqb (length l) (n * 2)) rest) in
-    let s : Spelled (bytesOf l) l = spelled-of l n (both-left (allDigits l) (eqb (length l) (n * 2)) rest) long in
+    let long : length l ≡ n * 2 = omega (arith, formed-length (c ∷ l) e) in
+    let s : Spelled (bytesOf l) l = spelled-of l n (formed-digits (c ∷ l) e) long in
     record {
       fields = fieldsOf (bytesOf l);
       digits = l;
-      is = ap (λ (b : ℕ). b ∷ l) (eqb-true c 58 (both-left (eqb c 58) (allDigits l && eqb (length l) (n * 2)) e));
+      is = ap (λ (b : ℕ). b ∷ l) (formed-colon (c ∷ l) e);
       spelled = rw (fields-bytes (bytesOf l) (length-pairs l n long) (spelled-small s 2)) s;
     }
 
@@ -172,7 +167,7 @@ same-front : (l m : List ℕ) (c : ℕ) → l ++ c ∷ [] ≡ m ++ c ∷ [] → 
 same-front l m c e = sym (front l c) ∙ ap (λ (k : List ℕ). take (length k - 1) k) e ∙ front m c
 
 -- and a line in the form of a record is formed
-form-formed : (l : List ℕ) (r : Fields) → Form r (l ++ 10 ∷ []) → formed (bare l) ≡ true
+pub form-formed : (l : List ℕ) (r : Fields) → Form r (l ++ 10 ∷ []) → formed (bare l) ≡ true
 form-formed l r f = bare-formed (f .digits) (f .spelled) (f .ends) (f .is)
   where
     bare-formed : {e : List ℕ} (m : List ℕ) → Spelled (bytes r) m → LineEnd e → l ++ 10 ∷ [] ≡ 58 ∷ m ++ e → formed (bare l) ≡ true

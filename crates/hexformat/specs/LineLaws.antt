@@ -107,8 +107,8 @@ first (c ∷ text) =
 
 -- ---- a line of a good text
 
-whole-some : {l : List ℕ} → WholeLine l → 0 < length l
-whole-some w = rw (w .is) (omega (arith, length-append (w .inside) (10 ∷ [])))
+whole-length : {l : List ℕ} → WholeLine l → 0 < length l
+whole-length w = rw (w .is) (omega (arith, length-append (w .inside) (10 ∷ [])))
 
 -- what follows a data line, read where that line was
 lost-data : (room line : ℕ) (image rest y z : List ℕ) {r : Fields} {l : List ℕ} → Form r l → IsData (length image) r
@@ -134,17 +134,17 @@ module _ (room line : ℕ) (x y z rest : List ℕ) where
   doubled {l} w (isData {r = r} f b d h n) e =
       let o : (length (x ++ r .contents) ≡ length x → ⊥) = λ e. omega (arith, length-append x (r .contents), d .some) in
       refused-not (sym (read-data room line x (l ++ rest) f b d h ∙ elsewhere room (line + 1) (length x) (x ++ r .contents) rest f b d o) ∙ e)
-  doubled {l} w (isEnd f b d n q) e = refused-not (sym (end-goes-on room line x (l ++ rest) f b d (omega (arith, length-append l rest, whole-some w))) ∙ e)
+  doubled {l} w (isEnd f b d n q) e = refused-not (sym (end-goes-on room line x (l ++ rest) f b d (omega (arith, length-append l rest, whole-length w))) ∙ e)
 
   exchanged : {l m : List ℕ} → WholeLine l → WholeLine m → LineAt room line x l (m ++ rest) y → reading room line x [] (m ++ (l ++ rest)) ≡ result z → ⊥
-  exchanged {l} {m} v w (isEnd f b d n q) e = omega (arith, ap length n, length-append m rest, whole-some w)
+  exchanged {l} {m} v w (isEnd f b d n q) e = omega (arith, ap length n, length-append m rest, whole-length w)
   exchanged {l} {m} v w (isData {r = r} f b d h n) e = at-next (line-at room (line + 1) (x ++ r .contents) rest y w n)
     where
       at-next : LineAt room (line + 1) (x ++ r .contents) m rest y → ⊥
       at-next (isData g c i k p) =
           let o : (length x ≡ length (x ++ r .contents) → ⊥) = λ e. omega (arith, length-append x (r .contents), d .some) in
           refused-not (sym (elsewhere room line (length (x ++ r .contents)) x (l ++ rest) g c i o) ∙ e)
-      at-next (isEnd g c i k p) = refused-not (sym (end-goes-on room line x (l ++ rest) g c i (omega (arith, length-append l rest, whole-some v))) ∙ e)
+      at-next (isEnd g c i k p) = refused-not (sym (end-goes-on room line x (l ++ rest) g c i (omega (arith, length-append l rest, whole-length v))) ∙ e)
 
 -- ---- good texts
 
@@ -160,7 +160,7 @@ found : (image other rest text : List ℕ) {before line : List ℕ} → WholeLin
 found image other rest text {before} {line} lines w g g′ =
     let room : ℕ = length image + length other in
     let e = reads-good room g (omega arith) in
-    let p = past room 1 [] (line ++ rest) image lines (omega (arith, length-append line rest, whole-some w)) e in
+    let p = past room 1 [] (line ++ rest) image lines (omega (arith, length-append line rest, whole-length w)) e in
     record {
       number = p .line′;
       held = p .image′;

@@ -16,6 +16,7 @@ use Rattle.hextext.specs.Text.{readText}
 use Rattle.hextext.specs.Written.{recordText, textOf, textLength, writeImage}
 use Rattle.hexformat.specs.Format.{AllBytes, GoodText, none}
 use Rattle.hexformat.specs.Agrees.{read-exactly}
+use Rattle.hexformat.specs.GoodTexts.{image-is-bytes}
 use Rattle.hexformat.specs.WrittenLaws.{writing-good, length-textOf, length-recordText, textLength-full, textLength-rest}
 
 module _ (image : List ℕ) (are-bytes : AllBytes image) where
@@ -27,6 +28,13 @@ module _ (image : List ℕ) (are-bytes : AllBytes image) where
   -- what is written of an image reads back as the same image
   pub written-reads-back : (size : ℕ) → length image ≤ 4096 → length image ≤ size → readText size (textOf image) ≡ result image
   written-reads-back size h k = read-exactly size (textOf image) image .1 (written-is-good h, omega arith)
+
+-- what is read of any text, and written anew, reads back as the same image
+pub read-reads-back : (size : ℕ) (text image : List ℕ) → readText size text ≡ result image → readText size (textOf image) ≡ result image
+read-reads-back size text image e =
+    let good = read-exactly size text image .0 e in
+    let fits = good .1 in
+    written-reads-back image (image-is-bytes image text (good .0)) size (omega arith) (omega arith)
 
 -- an image of 4,096 bytes or less whose text has room is written
 pub is-written : (size : ℕ) (image : List ℕ) → length image ≤ 4096 → textLength (length image) ≤ size → writeImage size image ≡ result (textOf image)

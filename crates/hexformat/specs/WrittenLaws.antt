@@ -1,5 +1,5 @@
 -- The text that is written: its records, and how long it is.
-use mathlib.Core.Path.{_≡_, refl, ap, _∙_, subst}
+use mathlib.Core.Path.{_≡_, refl, ap, _∙_}
 use mathlib.Core.List.{List, [], _∷_, _++_, append-nil, append-assoc}
 use Prim.Native.Nat.{ℕ, zero, suc, _+_, _*_, _%_, _/_, _≤_, _<_}
 use native.Mathlib.Omega.{arith}
@@ -83,32 +83,32 @@ writing-nothing zero address = refl
 writing-nothing (suc most) address = refl
 
 module _ (most : ℕ) {count : ℕ} {x before : List ℕ} (z : List ℕ) (lines : DataLines count x before) where
-  abbrev d : List ℕ
-  d = take 16 z
+  abbrev piece : List ℕ
+  piece = take 16 z
 
-  abbrev l : List ℕ
-  l = recordText (length x) 0 d
+  abbrev line : List ℕ
+  line = recordText (length x) 0 piece
 
-  one-more : AllBytes z → length x + length z ≤ 65536 → 0 < length z → DataLines (count + 1) (x ++ d) (before ++ l)
+  one-more : AllBytes z → length x + length z ≤ 65536 → 0 < length z → DataLines (count + 1) (x ++ piece) (before ++ line)
   one-more w h p =
       let lt = length-take 16 z in
       next lines
-      (written-form (length x) 0 d (omega arith) (omega arith) (omega arith) (bytes-take 16 z w))
-      (written-balanced (length x) 0 d)
+      (written-form (length x) 0 piece (omega arith) (omega arith) (omega arith) (bytes-take 16 z w))
+      (written-balanced (length x) 0 piece)
       (record { type-00 = refl; some = omega arith; at-most = omega arith; starts = refl })
 
-  rest-written : writing most (length (x ++ d)) (drop 16 z) ≡ writing most (length x + 16) (drop 16 z)
+  rest-written : writing most (length (x ++ piece)) (drop 16 z) ≡ writing most (length x + 16) (drop 16 z)
   rest-written =
       split 16 (length z)
-      (λ (m : 16 ≤ length z). ap (λ (n : ℕ). writing most n (drop 16 z)) (omega (arith, length-append x d, length-take 16 z)))
-      (λ (m : length z < 16). rw (drop-of-length-le z (le-of-lt m), writing-nothing most (length (x ++ d)), writing-nothing most (length x + 16)))
+      (λ (m : 16 ≤ length z). ap (λ (n : ℕ). writing most n (drop 16 z)) (omega (arith, length-append x piece, length-take 16 z)))
+      (λ (m : length z < 16). rw (drop-of-length-le z (le-of-lt m), writing-nothing most (length (x ++ piece)), writing-nothing most (length x + 16)))
 
-  then-good : GoodText (x ++ d ++ drop 16 z) (before ++ l ++ writing most (length (x ++ d)) (drop 16 z)) → GoodText (x ++ z) (before ++ (l ++ writing most (length x + 16) (drop 16 z)))
+  then-good : GoodText (x ++ piece ++ drop 16 z) (before ++ line ++ writing most (length (x ++ piece)) (drop 16 z)) → GoodText (x ++ z) (before ++ (line ++ writing most (length x + 16) (drop 16 z)))
   then-good g =
-      let whole : x ++ d ++ drop 16 z ≡ x ++ z = append-assoc x d (drop 16 z) ∙ ap (λ (m : List ℕ). x ++ m) (take-append-drop 16 z) in
-      let text : before ++ l ++ writing most (length (x ++ d)) (drop 16 z) ≡ before ++ (l ++ writing most (length x + 16) (drop 16 z)) =
-      append-assoc before l (writing most (length (x ++ d)) (drop 16 z)) ∙ ap (λ (m : List ℕ). before ++ (l ++ m)) rest-written in
-      subst (λ (t : List ℕ). GoodText (x ++ z) t) text (subst (λ (m : List ℕ). GoodText m (before ++ l ++ writing most (length (x ++ d)) (drop 16 z))) whole g)
+      let whole : x ++ piece ++ drop 16 z ≡ x ++ z = append-assoc x piece (drop 16 z) ∙ ap (λ (m : List ℕ). x ++ m) (take-append-drop 16 z) in
+      let text : before ++ line ++ writing most (length (x ++ piece)) (drop 16 z) ≡ before ++ (line ++ writing most (length x + 16) (drop 16 z)) =
+      append-assoc before line (writing most (length (x ++ piece)) (drop 16 z)) ∙ ap (λ (m : List ℕ). before ++ (line ++ m)) rest-written in
+      rw (whole, text) at g
 
 -- what is written after lines that hold the image's first bytes x, of the rest y
 pub writing-good : (most : ℕ) {count : ℕ} {x before : List ℕ} (y : List ℕ) → DataLines count x before → AllBytes y → length x + length y ≤ 65536 → length y ≤ most
