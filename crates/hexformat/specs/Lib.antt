@@ -15,5 +15,6 @@ pub mod JudgedLaws
 pub mod ComesLaws
 pub mod WrittenLaws
 pub mod SumLaws
+pub mod PartLaws
 pub mod CharacterLaws
 pub mod LineLaws
