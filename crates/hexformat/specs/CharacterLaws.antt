@@ -22,13 +22,8 @@ use Rattle.hexformat.specs.PartLaws.{digit-inside, return-inside, formed
 
 -- ---- two sound lines
 
--- they differ in the case of a digit
-record Alike (b c : ℕ) (l m : List ℕ) : Type 0 where
-  same : SameDigit b c
-  same-record : recordBytes l ≡ recordBytes m
-
 module _ (b c : ℕ) (differ : b ≡ c → ⊥) where
-  alike : (u w : List ℕ) → Sound (u ++ b ∷ w) → Sound (u ++ c ∷ w) → Alike b c (u ++ b ∷ w) (u ++ c ∷ w)
+  alike : (u w : List ℕ) → Sound (u ++ b ∷ w) → Sound (u ++ c ∷ w) → SameDigit b c × (recordBytes (u ++ b ∷ w) ≡ recordBytes (u ++ c ∷ w))
   unfolding recordBytes
   alike [] w s t = absurd (differ (formed-colon (b ∷ w) (s .well-formed) ∙ sym (formed-colon (c ∷ w) (t .well-formed))))
   alike (a ∷ u) w s t =
@@ -38,12 +33,9 @@ module _ (b c : ℕ) (differ : b ≡ c → ⊥) where
       let long : length (u ++ b ∷ w) ≡ n * 2 = omega (arith, formed-length (a ∷ u ++ b ∷ w) (s .well-formed)) in
       let long′ : length (u ++ c ∷ w) ≡ n * 2 = length-append u (c ∷ w) ∙ sym (length-append u (b ∷ w)) ∙ long in
       let e : digit b ≡ digit c = same-digit u w b c n h k long long′ (s .balanced) (t .balanced) in
-      record {
-        same = record { value = digit c; first = digit-of b (digit c) e k; second = digit-of c (digit c) refl k };
-        same-record = same-bytes u w b c e;
-      }
+      (record { value = digit c; first = digit-of b (digit c) e k; second = digit-of c (digit c) refl k }, same-bytes u w b c e)
 
-  alike-bare : (u v : List ℕ) → Sound (bare (u ++ b ∷ v)) → Sound (bare (u ++ c ∷ v)) → Alike b c (bare (u ++ b ∷ v)) (bare (u ++ c ∷ v))
+  alike-bare : (u v : List ℕ) → Sound (bare (u ++ b ∷ v)) → Sound (bare (u ++ c ∷ v)) → SameDigit b c × (recordBytes (bare (u ++ b ∷ v)) ≡ recordBytes (bare (u ++ c ∷ v)))
   alike-bare u (d ∷ v) s t = rw (bare-on u v b d, bare-on u v c d) (alike u (bare (d ∷ v)) (rw (bare-on u v b d) at s) (rw (bare-on u v c d) at t))
   alike-bare u [] s t =
       decide (eqb b 13)
@@ -103,25 +95,24 @@ same-judged : (room at : ℕ) (l m : List ℕ) → formed l ≡ true → formed 
 unfolding judge
 same-judged room at l m f g e = rw (f, g, e)
 
-module _ (room b c : ℕ) (differ : b ≡ c → ⊥) where
-  -- the two characters stand in the part of the line already passed
-  in-line : (line : ℕ) (image u v text y z : List ℕ) → reading room line image (u ++ b ∷ v) text ≡ result y → reading room line image (u ++ c ∷ v) text ≡ result z
-      → SameDigit b c × (z ≡ y)
+-- p and q are what was passed of the line in each text; wherever the line ends, they say the same
+module _ {X : Type 0} (p q : List ℕ) (alike-from : (v : List ℕ) → Sound (bare (p ++ v)) → Sound (bare (q ++ v)) → X × (recordBytes (bare (p ++ v)) ≡ recordBytes (bare (q ++ v)))) where
+  in-line : (room line : ℕ) (image v text y z : List ℕ) → reading room line image (p ++ v) text ≡ result y → reading room line image (q ++ v) text ≡ result z → X × (z ≡ y)
   unfolding reading
-  in-line line image u v [] y z e f = refused-not e
-  in-line line image u v (a ∷ text) y z e f =
+  in-line room line image v [] y z e f = refused-not e
+  in-line room line image v (a ∷ text) y z e f =
       decide (eqb a 10)
-      (λ (q : eqb a 10 ≡ true).
-      let l : List ℕ = bare (u ++ b ∷ v) in
-      let m : List ℕ = bare (u ++ c ∷ v) in
-      let s = sound-line room line image (u ++ b ∷ v) text y (rw q at e) in
-      let t = sound-line room line image (u ++ c ∷ v) text z (rw q at f) in
-      let k = alike-bare b c differ u v s t in
-      let j : judge room (length image) m ≡ judge room (length image) l = same-judged room (length image) l m (s .well-formed) (t .well-formed) (k .same-record) in
-      (k .same, same-result (sym (rw (q, j, ← (k .same-record)) at f) ∙ rw q at e)))
-      (λ (q : eqb a 10 ≡ false).
-      in-line line image u (v ++ a ∷ []) text y z (rw (q, append-assoc u (b ∷ v) (a ∷ [])) at e) (rw (q, append-assoc u (c ∷ v) (a ∷ [])) at f))
+      (λ (t : eqb a 10 ≡ true).
+      let l : List ℕ = bare (p ++ v) in
+      let m : List ℕ = bare (q ++ v) in
+      let s = sound-line room line image (p ++ v) text y (rw t at e) in
+      let s′ = sound-line room line image (q ++ v) text z (rw t at f) in
+      let k = alike-from v s s′ in
+      let j : judge room (length image) m ≡ judge room (length image) l = same-judged room (length image) l m (s .well-formed) (s′ .well-formed) (k .1) in
+      (k .0, same-result (sym (rw (t, j, ← (k .1)) at f) ∙ rw t at e)))
+      (λ (t : eqb a 10 ≡ false). in-line room line image (v ++ a ∷ []) text y z (rw (t, append-assoc p v (a ∷ [])) at e) (rw (t, append-assoc q v (a ∷ [])) at f))
 
+module _ (room b c : ℕ) (differ : b ≡ c → ⊥) where
   at-place : (rest y z : List ℕ) → Part room (b ∷ rest) (c ∷ rest) y z → SameDigit b c × (z ≡ y)
   unfolding reading
   at-place rest y z p =
@@ -131,7 +122,10 @@ module _ (room b c : ℕ) (differ : b ≡ c → ⊥) where
       (λ (q : eqb b 10 ≡ false).
       decide (eqb c 10)
       (λ (o : eqb c 10 ≡ true). absurd (line-feed room (p .line) (p .image) (p .passed) rest z y b (eqb-false b 10 q) (rw (eqb-true c 10 o) at (p .second)) (p .first)))
-      (λ (o : eqb c 10 ≡ false). in-line (p .line) (p .image) (p .passed) [] rest y z (rw q at (p .first)) (rw o at (p .second))))
+      (λ (o : eqb c 10 ≡ false).
+      let u : List ℕ = p .passed in
+      in-line (u ++ b ∷ []) (u ++ c ∷ []) (λ v. rw (append-assoc u (b ∷ []) v, append-assoc u (c ∷ []) v) (alike-bare b c differ u v))
+      room (p .line) (p .image) [] rest y z (rw (q, sym (append-nil (u ++ b ∷ []))) at (p .first)) (rw (o, sym (append-nil (u ++ c ∷ []))) at (p .second))))
 
 -- two good texts that differ in one character: only the case of a digit differs, and they are texts of the same image
 pub one-apart : (image other before rest : List ℕ) (b c : ℕ) → GoodText image (before ++ b ∷ rest) → GoodText other (before ++ c ∷ rest) → (b ≡ c → ⊥)
