@@ -15,7 +15,7 @@ use Rattle.hextext.specs.Text.{bare, after, reading}
 use Rattle.hexformat.specs.Format.{GoodText}
 use Rattle.hexformat.specs.Damage.{SameDigit, SpareReturn}
 use Rattle.hexformat.specs.SpelledLaws.{digit-of}
-use Rattle.hexformat.specs.SumLaws.{same-digit, same-bytes}
+use Rattle.hexformat.specs.SumLaws.{same-digit, same-bytes, same-either-way, same-bytes-exchanged}
 use Rattle.hexformat.specs.BareLaws.{snoc, bare-return, bare-append, bare-on, bare-last}
 use Rattle.hexformat.specs.ReadingLaws.{refused-not, same-result, ended}
 use Rattle.hexformat.specs.PartLaws.{digit-inside, return-inside, formed-odd, longer-by-one, Sound, sound-line, no-empty-line, starts-colon, no-colon, reads-on, Part, part-good}
@@ -77,7 +77,12 @@ no-longer l c e f =
 
 -- ---- they part at a character each
 
--- an LF can't trade places with another character
+-- a line that is read, with a colon after it
+colon-after : (room line : ℕ) (image u text z : List ℕ) → Sound (bare u) → reading room line image (u ++ 58 ∷ []) text ≡ result z → ⊥
+colon-after room line image [] text z s e = no-empty-line (s .well-formed)
+colon-after room line image (a ∷ u) text z s e = no-colon room line image a u [] text z e
+
+-- an LF can't be replaced
 line-feed : (room line : ℕ) (image u text y z : List ℕ) (c : ℕ) → (c ≡ 10 → ⊥)
     → reading room line image u (10 ∷ text) ≡ result y → reading room line image u (c ∷ text) ≡ result z → ⊥
 unfolding reading
@@ -133,6 +138,80 @@ pub one-apart : (image other before rest : List ℕ) (b c : ℕ) → GoodText im
 one-apart image other before rest b c g g′ differ =
     at-place (length image + length other) b c differ rest image other (part-good before (b ∷ rest) (c ∷ rest) g g′ (omega arith))
 
+-- ---- they part at two characters exchanged
+
+module _ (b c : ℕ) (differ : b ≡ c → ⊥) where
+  exchanged-alike : (u w : List ℕ) → Sound (u ++ b ∷ c ∷ w) → Sound (u ++ c ∷ b ∷ w) → SameDigit b c × (recordBytes (u ++ b ∷ c ∷ w) ≡ recordBytes (u ++ c ∷ b ∷ w))
+  unfolding recordBytes
+  exchanged-alike [] w s t = absurd (differ (formed-colon (b ∷ c ∷ w) (s .well-formed) ∙ sym (formed-colon (c ∷ b ∷ w) (t .well-formed))))
+  exchanged-alike (a ∷ u) w s t =
+      let h = digit-inside a u (c ∷ w) b (s .well-formed) in
+      let k = digit-inside a u (b ∷ w) c (t .well-formed) in
+      let n : ℕ = countOf (bytesOf (u ++ b ∷ c ∷ w)) + 5 in
+      let long : length (u ++ b ∷ c ∷ w) ≡ n * 2 = omega (arith, formed-length (a ∷ u ++ b ∷ c ∷ w) (s .well-formed)) in
+      let long′ : length (u ++ c ∷ b ∷ w) ≡ n * 2 = length-append u (c ∷ b ∷ w) ∙ sym (length-append u (b ∷ c ∷ w)) ∙ long in
+      let e : digit b ≡ digit c = same-either-way u w b c n h k long long′ (s .balanced) (t .balanced) in
+      (record { value = digit c; first = digit-of b (digit c) e k; second = digit-of c (digit c) refl k }, same-bytes-exchanged u w b c e)
+
+-- a line with two characters more, the CR taken off
+bare-two : (u v : List ℕ) (b c d : ℕ) → bare (u ++ b ∷ c ∷ d ∷ v) ≡ u ++ b ∷ c ∷ bare (d ∷ v)
+bare-two u v b c d = bare-append u (c ∷ d ∷ v) b ∙ ap (λ (l : List ℕ). u ++ l) (bare-append (b ∷ c ∷ []) v d)
+
+bare-two-last : (u : List ℕ) (b c : ℕ) → (c ≡ 13 → ⊥) → bare (u ++ b ∷ c ∷ []) ≡ u ++ b ∷ c ∷ []
+bare-two-last u b c h = rw (append-assoc u (b ∷ []) (c ∷ [])) at (bare-last (u ++ b ∷ []) c h)
+
+module _ (b c : ℕ) (differ : b ≡ c → ⊥) where
+  exchanged-bare : (u v : List ℕ) → Sound (bare (u ++ b ∷ c ∷ v)) → Sound (bare (u ++ c ∷ b ∷ v))
+      → SameDigit b c × (recordBytes (bare (u ++ b ∷ c ∷ v)) ≡ recordBytes (bare (u ++ c ∷ b ∷ v)))
+  exchanged-bare u (d ∷ v) s t =
+      rw (bare-two u v b c d, bare-two u v c b d) (exchanged-alike b c differ u (bare (d ∷ v)) (rw (bare-two u v b c d) at s) (rw (bare-two u v c b d) at t))
+  exchanged-bare u [] s t =
+      decide (eqb b 13)
+      (λ p.
+      let e = eqb-true b 13 p in
+      absurd (return-inside u (c ∷ []) (rw (bare-two-last u b c (λ (q : c ≡ 13). differ (e ∙ sym q)), e) at (s .well-formed))))
+      (λ p. decide (eqb c 13)
+      (λ q. absurd (return-inside u (b ∷ []) (rw (bare-two-last u c b (eqb-false b 13 p), eqb-true c 13 q) at (t .well-formed))))
+      (λ q.
+      let l = bare-two-last u b c (eqb-false c 13 q) in
+      let m = bare-two-last u c b (eqb-false b 13 p) in
+      rw (l, m) (exchanged-alike b c differ u [] (rw l at s) (rw m at t))))
+
+-- an LF can't trade places with its neighbour
+line-feed-first : (room line : ℕ) (image u text y z : List ℕ) (c : ℕ) → (c ≡ 10 → ⊥)
+    → reading room line image u (10 ∷ c ∷ text) ≡ result y → reading room line image u (c ∷ 10 ∷ text) ≡ result z → ⊥
+unfolding reading
+line-feed-first room line image u text y z c h e f =
+    let g = reads-on room line image u (c ∷ text) y (omega arith) e in
+    let q : c ≡ 58 = starts-colon room (line + 1) (image ++ dataOf (recordBytes (bare u))) text y c (g .2) in
+    colon-after room line image u (10 ∷ text) z (sound-line room line image u (c ∷ text) y e) (rw (ne-eqb c 10 h, q) at f)
+
+module _ (room b c : ℕ) (differ : b ≡ c → ⊥) where
+  exchanged-at-place : (rest y z : List ℕ) → Part room (b ∷ c ∷ rest) (c ∷ b ∷ rest) y z → SameDigit b c × (z ≡ y)
+  unfolding reading
+  exchanged-at-place rest y z p =
+      decide (eqb b 10)
+      (λ (q : eqb b 10 ≡ true).
+      let e = eqb-true b 10 q in
+      absurd (line-feed-first room (p .line) (p .image) (p .passed) rest y z c (λ (o : c ≡ 10). differ (e ∙ sym o)) (rw e at (p .first)) (rw e at (p .second))))
+      (λ (q : eqb b 10 ≡ false).
+      decide (eqb c 10)
+      (λ (o : eqb c 10 ≡ true).
+      let e = eqb-true c 10 o in
+      absurd (line-feed-first room (p .line) (p .image) (p .passed) rest z y b (eqb-false b 10 q) (rw e at (p .second)) (rw e at (p .first))))
+      (λ (o : eqb c 10 ≡ false).
+      let u : List ℕ = p .passed in
+      in-line (u ++ b ∷ c ∷ []) (u ++ c ∷ b ∷ []) (λ v. rw (append-assoc u (b ∷ c ∷ []) v, append-assoc u (c ∷ b ∷ []) v) (exchanged-bare b c differ u v))
+      room (p .line) (p .image) [] rest y z
+      (rw (q, o, append-assoc u (b ∷ []) (c ∷ []), sym (append-nil (u ++ b ∷ c ∷ []))) at (p .first))
+      (rw (o, q, append-assoc u (c ∷ []) (b ∷ []), sym (append-nil (u ++ c ∷ b ∷ []))) at (p .second))))
+
+-- two good texts that differ in the order of two neighbouring characters: these are the same digit, and the texts are texts of the same image
+pub exchanged-apart : (image other before rest : List ℕ) (b c : ℕ) → GoodText image (before ++ b ∷ c ∷ rest) → GoodText other (before ++ c ∷ b ∷ rest) → (b ≡ c → ⊥)
+    → SameDigit b c × (other ≡ image)
+exchanged-apart image other before rest b c g g′ differ =
+    exchanged-at-place (length image + length other) b c differ rest image other (part-good before (b ∷ c ∷ rest) (c ∷ b ∷ rest) g g′ (omega arith))
+
 -- ---- one of them has a character more
 
 module _ (room line : ℕ) (image : List ℕ) (c : ℕ) where
@@ -174,11 +253,7 @@ more-lines room line image u [] y z e f = refused-not f
 more-lines room line image u (d ∷ text) y z e f =
     let g = reads-on room line image u (d ∷ text) y (omega arith) e in
     let q : d ≡ 58 = starts-colon room (line + 1) (image ++ dataOf (recordBytes (bare u))) text y d (g .2) in
-    inside u (sound-line room line image u (d ∷ text) y e) (rw q at f)
-  where
-    inside : (u : List ℕ) → Sound (bare u) → reading room line image (u ++ 58 ∷ []) text ≡ result z → ⊥
-    inside [] s e = no-empty-line (s .well-formed)
-    inside (a ∷ u) s e = no-colon room line image a u [] text z e
+    colon-after room line image u text z (sound-line room line image u (d ∷ text) y e) (rw q at f)
 
 more-at-place : (room c : ℕ) (rest y z : List ℕ) → Part room (c ∷ rest) rest y z → SpareReturn c rest × (y ≡ z)
 unfolding reading

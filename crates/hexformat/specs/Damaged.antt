@@ -12,7 +12,7 @@ use Rattle.hexformat.specs.Faults.{WholeLine}
 use Rattle.hexformat.specs.Damage.{IsRefused, SameDigit, SpareReturn, WholeLines, LastData}
 use Rattle.hexformat.specs.SpelledLaws.{digit-value}
 use Rattle.hexformat.specs.Agrees.{read-exactly}
-use Rattle.hexformat.specs.CharacterLaws.{one-apart, one-longer, no-beginning}
+use Rattle.hexformat.specs.CharacterLaws.{one-apart, exchanged-apart, one-longer, no-beginning}
 use Rattle.hexformat.specs.LineLaws.{one-lost, one-doubled, two-exchanged}
 
 -- ---- a text is refused, or what holds of the images that it is a good text of holds of what it is read as
@@ -51,6 +51,12 @@ module _ (size : ℕ) (image before rest : List ℕ) where
       let s = w .0 in
       absurd (differ (omega (arith, digit-value d, digit-value d′, digit-value (s .first), digit-value (s .second)))))
       (character-replaced b c good (λ (q : b ≡ c). differ (sym (digit-value d) ∙ ap digit q ∙ digit-value d′)))
+
+  -- a good text with two neighbouring characters exchanged is refused; or they are one digit in both cases, and the text is read as the same image
+  pub characters-exchanged : (one other : ℕ) → GoodText image (before ++ one ∷ other ∷ rest) → (one ≡ other → ⊥)
+      → IsRefused (readText size (before ++ other ∷ one ∷ rest)) ⊎ (SameDigit one other × (readText size (before ++ other ∷ one ∷ rest) ≡ result image))
+  characters-exchanged b c good differ =
+      refused-or-same size (before ++ c ∷ b ∷ rest) image (λ other g. exchanged-apart image other before rest b c good g differ)
 
   -- a good text with one character lost is refused; or that was a CR directly before an LF, and the text is read as the same image
   pub character-lost : (character : ℕ) → GoodText image (before ++ character ∷ rest)

@@ -24,7 +24,7 @@ use Rattle.hexformat.specs.JudgedLaws.{form-formed}
 use Rattle.hexformat.specs.Agrees.{read-exactly, refused-exactly, refused-known}
 use Rattle.hexformat.specs.GoodTexts.{one-image, image-is-bytes, text-is-lines, text-length-bound, read-length-bound}
 use Rattle.hexformat.specs.RoundTrip.{written-is-good, written-reads-back, read-reads-back, is-written, there-and-back, length-of-full-records, length-with-a-rest}
-use Rattle.hexformat.specs.Damaged.{character-replaced, digit-changed, character-lost, character-added, cut-off, line-lost, line-doubled, lines-exchanged}
+use Rattle.hexformat.specs.Damaged.{character-replaced, digit-changed, characters-exchanged, character-lost, character-added, cut-off, line-lost, line-doubled, lines-exchanged}
 
 -- ---- lines
 
@@ -228,6 +228,11 @@ digit-changed-met : IsRefused (readText 4096 (characters ":020000005101AD\n:0000
 digit-changed-met =
     digit-changed 4096 image (characters ":020000005101A") (characters "\n:00000001FF\n") 67 68 12 13 good
     (upperCase (omega arith) (omega arith) refl) (upperCase (omega arith) (omega arith) refl) (λ e. omega arith)
+
+-- 10 for 01
+characters-exchanged-met : let other : List ℕ = characters ":020000005110AC\n:00000001FF\n" in
+    IsRefused (readText 4096 other) ⊎ (SameDigit 48 49 × (readText 4096 other ≡ result image))
+characters-exchanged-met = characters-exchanged 4096 image (characters ":0200000051") (characters "AC\n:00000001FF\n") 48 49 good (λ e. omega arith)
 
 -- without the last LF, and with one more
 character-lost-met : let other : List ℕ = characters ":020000005101AC\n:00000001FF" in

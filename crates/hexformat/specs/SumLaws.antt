@@ -63,3 +63,41 @@ same-bytes [] [] b c e = refl
 same-bytes [] (d ∷ w) b c e = rw e
 same-bytes (a ∷ []) w b c e = rw e
 same-bytes (a ∷ d ∷ u) w b c e = rw (same-bytes u w b c e)
+
+-- ---- two digits side by side
+
+-- what the digits u and w count without two digits between them
+around : List ℕ → List ℕ → ℕ
+around [] w = total (bytesOf w)
+around (a ∷ []) [] = 0
+around (a ∷ []) (d ∷ w) = digit a * 16 + digit d + total (bytesOf w)
+around (a ∷ b ∷ u) w = (digit a * 16 + digit b) + around u w
+
+sum-of-two : (u w : List ℕ) (b c n : ℕ) → length (u ++ b ∷ c ∷ w) ≡ n * 2
+    → total (bytesOf (u ++ b ∷ c ∷ w)) ≡ around u w + (digit b * weight u + digit c * (17 - weight u))
+unfolding weight around total bytesOf
+sum-of-two [] w b c n e = omega arith
+sum-of-two (a ∷ []) [] b c n e = absurd (omega arith)
+sum-of-two (a ∷ []) (d ∷ w) b c n e = omega arith
+sum-of-two (a ∷ d ∷ u) w b c n e = let e′ : length (u ++ b ∷ c ∷ w) ≡ (n - 1) * 2 = omega arith in omega (arith, sum-of-two u w b c (n - 1) e′)
+
+same-pair : (s b c m : ℕ) → (m ≡ 1) ⊎ (m ≡ 16) → b < 16 → c < 16
+    → (s + (b * m + c * (17 - m))) % 256 ≡ 0 → (s + (c * m + b * (17 - m))) % 256 ≡ 0 → b ≡ c
+same-pair s b c m w h h′ e e′ =
+    ⊎-elim
+    (λ (q : m ≡ 1). omega (arith, same-remainder s (b * 1 + c * 16) (c * 1 + b * 16) (omega arith) (omega arith) (rw q at e) (rw q at e′)))
+    (λ (q : m ≡ 16). omega (arith, same-remainder s (b * 16 + c * 1) (c * 16 + b * 1) (omega arith) (omega arith) (rw q at e) (rw q at e′)))
+    w
+
+-- where the sum is 0 modulo 256 with b before c and with c before b, they have one value
+pub same-either-way : (u w : List ℕ) (b c n : ℕ) → digit b < 16 → digit c < 16 → length (u ++ b ∷ c ∷ w) ≡ n * 2 → length (u ++ c ∷ b ∷ w) ≡ n * 2
+    → total (bytesOf (u ++ b ∷ c ∷ w)) % 256 ≡ 0 → total (bytesOf (u ++ c ∷ b ∷ w)) % 256 ≡ 0 → digit b ≡ digit c
+same-either-way u w b c n h k l m e f =
+    same-pair (around u w) (digit b) (digit c) (weight u) (weight-is u) h k (rw (sum-of-two u w b c n l) at e) (rw (sum-of-two u w c b n m) at f)
+
+pub same-bytes-exchanged : (u w : List ℕ) (b c : ℕ) → digit b ≡ digit c → bytesOf (u ++ b ∷ c ∷ w) ≡ bytesOf (u ++ c ∷ b ∷ w)
+unfolding bytesOf
+same-bytes-exchanged [] w b c e = rw e
+same-bytes-exchanged (a ∷ []) [] b c e = rw e
+same-bytes-exchanged (a ∷ []) (d ∷ w) b c e = rw e
+same-bytes-exchanged (a ∷ d ∷ u) w b c e = rw (same-bytes-exchanged u w b c e)
