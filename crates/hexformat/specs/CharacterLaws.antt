@@ -35,7 +35,8 @@ module _ (b c : ℕ) (differ : b ≡ c → ⊥) where
       let e : digit b ≡ digit c = same-digit u w b c n h k long long′ (s .balanced) (t .balanced) in
       (record { value = digit c; first = digit-of b (digit c) e k; second = digit-of c (digit c) refl k }, same-bytes u w b c e)
 
-  alike-bare : (u v : List ℕ) → Sound (bare (u ++ b ∷ v)) → Sound (bare (u ++ c ∷ v)) → SameDigit b c × (recordBytes (bare (u ++ b ∷ v)) ≡ recordBytes (bare (u ++ c ∷ v)))
+  alike-bare : (u v : List ℕ) → Sound (bare (u ++ b ∷ v)) → Sound (bare (u ++ c ∷ v))
+      → SameDigit b c × (recordBytes (bare (u ++ b ∷ v)) ≡ recordBytes (bare (u ++ c ∷ v)))
   alike-bare u (d ∷ v) s t = rw (bare-on u v b d, bare-on u v c d) (alike u (bare (d ∷ v)) (rw (bare-on u v b d) at s) (rw (bare-on u v c d) at t))
   alike-bare u [] s t =
       decide (eqb b 13)
@@ -101,8 +102,11 @@ unfolding judge
 same-judged room at l m f g e = rw (f, g, e)
 
 -- p and q are what was passed of the line in each text; wherever the line ends, they say the same
-module _ {X : Type 0} (p q : List ℕ) (alike-from : (v : List ℕ) → Sound (bare (p ++ v)) → Sound (bare (q ++ v)) → X × (recordBytes (bare (p ++ v)) ≡ recordBytes (bare (q ++ v)))) where
-  in-line : (room line : ℕ) (image v text y z : List ℕ) → reading room line image (p ++ v) text ≡ result y → reading room line image (q ++ v) text ≡ result z → X × (z ≡ y)
+module _
+    {X : Type 0} (p q : List ℕ)
+    (alike-from : (v : List ℕ) → Sound (bare (p ++ v)) → Sound (bare (q ++ v)) → X × (recordBytes (bare (p ++ v)) ≡ recordBytes (bare (q ++ v)))) where
+  in-line : (room line : ℕ) (image v text y z : List ℕ) → reading room line image (p ++ v) text ≡ result y
+      → reading room line image (q ++ v) text ≡ result z → X × (z ≡ y)
   unfolding reading
   in-line room line image v [] y z e f = refused-not e
   in-line room line image v (a ∷ text) y z e f =
@@ -123,10 +127,12 @@ module _ (room b c : ℕ) (differ : b ≡ c → ⊥) where
   at-place rest y z p =
       decide (eqb b 10)
       (λ (q : eqb b 10 ≡ true).
-      absurd (line-feed room (p .line) (p .image) (p .passed) rest y z c (λ (o : c ≡ 10). differ (eqb-true b 10 q ∙ sym o)) (rw (eqb-true b 10 q) at (p .first)) (p .second)))
+      let e = eqb-true b 10 q in
+      absurd (line-feed room (p .line) (p .image) (p .passed) rest y z c (λ (o : c ≡ 10). differ (e ∙ sym o)) (rw e at (p .first)) (p .second)))
       (λ (q : eqb b 10 ≡ false).
       decide (eqb c 10)
-      (λ (o : eqb c 10 ≡ true). absurd (line-feed room (p .line) (p .image) (p .passed) rest z y b (eqb-false b 10 q) (rw (eqb-true c 10 o) at (p .second)) (p .first)))
+      (λ (o : eqb c 10 ≡ true).
+      absurd (line-feed room (p .line) (p .image) (p .passed) rest z y b (eqb-false b 10 q) (rw (eqb-true c 10 o) at (p .second)) (p .first)))
       (λ (o : eqb c 10 ≡ false).
       let u : List ℕ = p .passed in
       in-line (u ++ b ∷ []) (u ++ c ∷ []) (λ v. rw (append-assoc u (b ∷ []) v, append-assoc u (c ∷ []) v) (alike-bare b c differ u v))
@@ -141,7 +147,8 @@ one-apart image other before rest b c g g′ differ =
 -- ---- they part at two characters exchanged
 
 module _ (b c : ℕ) (differ : b ≡ c → ⊥) where
-  exchanged-alike : (u w : List ℕ) → Sound (u ++ b ∷ c ∷ w) → Sound (u ++ c ∷ b ∷ w) → SameDigit b c × (recordBytes (u ++ b ∷ c ∷ w) ≡ recordBytes (u ++ c ∷ b ∷ w))
+  exchanged-alike : (u w : List ℕ) → Sound (u ++ b ∷ c ∷ w) → Sound (u ++ c ∷ b ∷ w)
+      → SameDigit b c × (recordBytes (u ++ b ∷ c ∷ w) ≡ recordBytes (u ++ c ∷ b ∷ w))
   unfolding recordBytes
   exchanged-alike [] w s t = absurd (differ (formed-colon (b ∷ c ∷ w) (s .well-formed) ∙ sym (formed-colon (c ∷ b ∷ w) (t .well-formed))))
   exchanged-alike (a ∷ u) w s t =
@@ -207,7 +214,8 @@ module _ (room b c : ℕ) (differ : b ≡ c → ⊥) where
       (rw (o, q, append-assoc u (c ∷ []) (b ∷ []), sym (append-nil (u ++ c ∷ b ∷ []))) at (p .second))))
 
 -- two good texts that differ in the order of two neighbouring characters: these are the same digit, and the texts are texts of the same image
-pub exchanged-apart : (image other before rest : List ℕ) (b c : ℕ) → GoodText image (before ++ b ∷ c ∷ rest) → GoodText other (before ++ c ∷ b ∷ rest) → (b ≡ c → ⊥)
+pub exchanged-apart : (image other before rest : List ℕ) (b c : ℕ) → GoodText image (before ++ b ∷ c ∷ rest)
+    → GoodText other (before ++ c ∷ b ∷ rest) → (b ≡ c → ⊥)
     → SameDigit b c × (other ≡ image)
 exchanged-apart image other before rest b c g g′ differ =
     exchanged-at-place (length image + length other) b c differ rest image other (part-good before (b ∷ c ∷ rest) (c ∷ b ∷ rest) g g′ (omega arith))
@@ -247,7 +255,8 @@ module _ (room line : ℕ) (image : List ℕ) (c : ℕ) where
       (more-in-line u (v ++ a ∷ []) text y z (rw (q, append-assoc u v (a ∷ [])) at e) (rw (q, append-assoc u (c ∷ v) (a ∷ [])) at f)))
 
 -- an LF too much
-more-lines : (room line : ℕ) (image u text y z : List ℕ) → reading room line image u (10 ∷ text) ≡ result y → reading room line image u text ≡ result z → ⊥
+more-lines : (room line : ℕ) (image u text y z : List ℕ) → reading room line image u (10 ∷ text) ≡ result y
+    → reading room line image u text ≡ result z → ⊥
 unfolding reading
 more-lines room line image u [] y z e f = refused-not f
 more-lines room line image u (d ∷ text) y z e f =
@@ -260,7 +269,8 @@ unfolding reading
 more-at-place room c rest y z p =
     decide (eqb c 10)
     (λ (q : eqb c 10 ≡ true). absurd (more-lines room (p .line) (p .image) (p .passed) rest y z (rw (eqb-true c 10 q) at (p .first)) (p .second)))
-    (λ (q : eqb c 10 ≡ false). more-in-line room (p .line) (p .image) c (p .passed) [] rest z y (rw (sym (append-nil (p .passed))) at (p .second)) (rw q at (p .first)))
+    (λ (q : eqb c 10 ≡ false).
+    more-in-line room (p .line) (p .image) c (p .passed) [] rest z y (rw (sym (append-nil (p .passed))) at (p .second)) (rw q at (p .first)))
 
 -- two good texts, one of which has one character more: it is a CR directly before an LF, and they are texts of the same image
 pub one-longer : (image other before rest : List ℕ) (c : ℕ) → GoodText image (before ++ c ∷ rest) → GoodText other (before ++ rest)

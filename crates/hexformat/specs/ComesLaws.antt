@@ -29,14 +29,27 @@ Comes room text (refused r) = Refuses room text (r .number) (r .detail)
 
 module _ {room count : ℕ} {image before : List ℕ} (lines : DataLines count image before) (fits : length image ≤ room) where
   step : (passed text taken : List ℕ) (answer : Outcome) {j : Record} → NoLineFeed passed → Judged room image (passed ++ 10 ∷ []) taken j
-      → (DataLines (count + 1) (image ++ taken) (before ++ (passed ++ 10 ∷ [])) → length (image ++ taken) ≤ room → Comes room (before ++ (passed ++ 10 ∷ []) ++ text) answer)
+      → (DataLines (count + 1) (image ++ taken) (before ++ (passed ++ 10 ∷ [])) → length (image ++ taken) ≤ room
+      → Comes room (before ++ (passed ++ 10 ∷ []) ++ text) answer)
       → Comes room (before ++ (passed ++ 10 ∷ []) ++ text) (after j (count + 1) image text answer)
   unfolding after
   step passed text taken answer w (more {r = r} f z d t h) go =
       let long : length (image ++ r .contents) ≤ room = rw (length-append image (r .contents)) h in
       rw t at go (next lines f z d) long
   step passed [] taken answer w (end f z d) go =
-      (record { count = count; front = before; last = passed ++ 10 ∷ []; end = _; is = append-nil (before ++ (passed ++ 10 ∷ [])); holds = lines; formed = f; balanced = z; ends = d }, fits)
+      let good : GoodText image (before ++ (passed ++ 10 ∷ []) ++ []) =
+      record {
+        count = count;
+        front = before;
+        last = passed ++ 10 ∷ [];
+        end = _;
+        is = append-nil (before ++ (passed ++ 10 ∷ []));
+        holds = lines;
+        formed = f;
+        balanced = z;
+        ends = d;
+      } in
+      (good, fits)
   step passed (c ∷ text) taken answer w (end f z d) go =
       let e : count + 1 + 1 ≡ count + 2 = omega arith in
       rw e (goesOn c text refl lines fits f z d)
@@ -55,7 +68,8 @@ comes-from room count image before passed (c ∷ text) lines fits w =
     rw (eqb-true c 10 q, ← e)
     (step lines fits passed text taken (reading room (count + 1 + 1) (image ++ taken) [] text) w (judged room image passed)
     (λ lines′ fits′.
-    rw (append-nil (before ++ (passed ++ 10 ∷ []))) at (comes-from room (count + 1) (image ++ taken) (before ++ (passed ++ 10 ∷ [])) [] text lines′ fits′ (λ i e. omega arith)))))
+    rw (append-nil (before ++ (passed ++ 10 ∷ []))) at
+    (comes-from room (count + 1) (image ++ taken) (before ++ (passed ++ 10 ∷ [])) [] text lines′ fits′ (λ i e. omega arith)))))
     (λ (q : eqb c 10 ≡ false).
     let e : before ++ (passed ++ c ∷ []) ++ text ≡ before ++ passed ++ c ∷ text = simp append-assoc in
     rw (q, ← e)
@@ -78,7 +92,8 @@ module _ (room line : ℕ) (image text : List ℕ) {l : List ℕ} where
     unfolding after
     read-data d h = reading-form room line image text f (Data (length (r .contents))) (judge-balanced r (f .spelled) room (length image) z ∙ typed-data d room h)
 
-    pub read-end : IsEnd r → reading room line image [] (l ++ text) ≡ after End line image text (reading room (line + 1) (image ++ r .contents) [] text)
+    pub read-end : IsEnd r
+        → reading room line image [] (l ++ text) ≡ after End line image text (reading room (line + 1) (image ++ r .contents) [] text)
     read-end d = reading-form room line image text f End (judge-balanced r (f .spelled) room (length image) z ∙ typed-end d room (length image))
 
   -- a line that breaks a rule is refused by its number
@@ -94,7 +109,8 @@ module _ (room line : ℕ) (image text : List ℕ) {l : List ℕ} where
   read-breaks v (notBalanced {fields = r} f w) = reading-form room line image text f (Fault 2) (judge-unbalanced r (f .spelled) room (length image) w)
   read-breaks v (neither {fields = r} f z d e) =
       reading-form room line image text f (Fault 3) (judge-balanced r (f .spelled) room (length image) z ∙ typed-other (count-small f) d e room)
-  read-breaks v (noRoom {fields = r} f z d h) = reading-form room line image text f (Fault 4) (judge-balanced r (f .spelled) room (length image) z ∙ typed-full d room h)
+  read-breaks v (noRoom {fields = r} f z d h) =
+      reading-form room line image text f (Fault 4) (judge-balanced r (f .spelled) room (length image) z ∙ typed-full d room h)
 
 pub read-stops : (room line : ℕ) (image passed text : List ℕ) → NoLineFeed text → reading room line image passed text ≡ refused (refusal 1 line)
 unfolding reading
@@ -110,7 +126,8 @@ read-lines room (next {count = count} {image = image} {text = before} {line = l}
     rw (append-assoc before l text)
     (read-lines room lines (omega arith) (l ++ text) ∙ read-data room (count + 1) image text f z d (omega arith))
 
-pub read-last : (room line : ℕ) (image : List ℕ) {r : Fields} {l : List ℕ} → Form r l → Balanced r → IsEnd r → reading room line image [] l ≡ result image
+pub read-last : (room line : ℕ) (image : List ℕ) {r : Fields} {l : List ℕ} → Form r l → Balanced r → IsEnd r
+    → reading room line image [] l ≡ result image
 unfolding after
 read-last room line image {r} {l} f z d = rw (append-nil l) at (read-end room line image [] f z d)
 

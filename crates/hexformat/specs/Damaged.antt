@@ -22,7 +22,8 @@ module _ (size : ℕ) (text : List ℕ) where
       → IsRefused (readText size text) ⊎ ((image : List ℕ) × X image × (readText size text ≡ result image))
   refused-or {X} f = of (readText size text) refl
     where
-      of : (o : Outcome) → readText size text ≡ o → IsRefused (readText size text) ⊎ ((image : List ℕ) × X image × (readText size text ≡ result image))
+      of : (o : Outcome) → readText size text ≡ o
+          → IsRefused (readText size text) ⊎ ((image : List ℕ) × X image × (readText size text ≡ result image))
       of (refused r) e = inl (record { given = r; is = e })
       of (result image) e = inr (image, f image (read-exactly size text image .0 e .0), e)
 
@@ -43,7 +44,8 @@ module _ (size : ℕ) (image before rest : List ℕ) where
       refused-or-same size (before ++ c ∷ rest) image (λ other g. one-apart image other before rest b c good g differ)
 
   -- a good text with one hexadecimal digit changed to another value is refused
-  pub digit-changed : (one other value changed : ℕ) → GoodText image (before ++ one ∷ rest) → Digit one value → Digit other changed → (value ≡ changed → ⊥)
+  pub digit-changed : (one other value changed : ℕ) → GoodText image (before ++ one ∷ rest) → Digit one value → Digit other changed
+      → (value ≡ changed → ⊥)
       → IsRefused (readText size (before ++ other ∷ rest))
   digit-changed b c value changed good d d′ differ =
       ⊎-elim (λ r. r)
@@ -83,7 +85,8 @@ module _ (size : ℕ) (image before rest : List ℕ) (lines : WholeLines before)
   line-lost line whole good = refused-or size (before ++ rest) (λ kept g. one-lost image kept before rest lines line whole good g)
 
   -- a good text with one line doubled is refused
-  pub line-doubled : (line : List ℕ) → WholeLine line → GoodText image (before ++ line ++ rest) → IsRefused (readText size (before ++ line ++ line ++ rest))
+  pub line-doubled : (line : List ℕ) → WholeLine line → GoodText image (before ++ line ++ rest)
+      → IsRefused (readText size (before ++ line ++ line ++ rest))
   line-doubled line whole good =
       refused-if size (before ++ line ++ line ++ rest) (λ other g. one-doubled image other before rest lines line whole good g)
 

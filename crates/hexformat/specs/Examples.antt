@@ -39,7 +39,8 @@ abbrev endFields : Fields
 endFields = record { type = 1; address = 0; contents = []; checksum = 0xFF }
 
 -- a line that is computed to have a record's form
-form-of : (fields : Fields) (digits ending : List ℕ) (n : ℕ) → allDigits digits ≡ true → length digits ≡ n * 2 → bytesOf digits ≡ bytes fields → LineEnd ending
+form-of : (fields : Fields) (digits ending : List ℕ) (n : ℕ) → allDigits digits ≡ true → length digits ≡ n * 2 → bytesOf digits ≡ bytes fields
+    → LineEnd ending
     → Form fields (58 ∷ digits ++ ending)
 form-of fields digits ending n d e b ends = record { digits = digits; ending = ending; is = refl; spelled = rw b at (spelled-of digits n d e); ends = ends }
 
@@ -254,4 +255,5 @@ line-doubled-met : IsRefused (readText 4096 (characters ":020000005101AC\n:02000
 line-doubled-met = line-doubled 4096 image [] (characters ":00000001FF\n") no-lines (characters ":020000005101AC\n") (form-whole data-form) good
 
 lines-exchanged-met : IsRefused (readText 4096 (characters ":00000001FF\n:020000005101AC\n"))
-lines-exchanged-met = lines-exchanged 4096 image [] [] no-lines (characters ":020000005101AC\n") (characters ":00000001FF\n") (form-whole data-form) (form-whole end-form) good
+lines-exchanged-met =
+    lines-exchanged 4096 image [] [] no-lines (characters ":020000005101AC\n") (characters ":00000001FF\n") (form-whole data-form) (form-whole end-form) good

@@ -74,7 +74,8 @@ kind-of at r small =
     (λ (d : IsEnd r). never (sym q ∙ rw (d .type-01, d .count-0, d .address-0)))
     (λ room. other-fault (eqb (r .type) 0) data-test end-test (cond (leb (at + n) room) (Data n) (Fault 4)) p q)))
 
-pub typed-other : {at : ℕ} {r : Fields} → length (r .contents) ≤ 255 → (IsData at r → ⊥) → (IsEnd r → ⊥) → (room : ℕ) → judgedFields room at r ≡ Fault 3
+pub typed-other : {at : ℕ} {r : Fields} → length (r .contents) ≤ 255 → (IsData at r → ⊥) → (IsEnd r → ⊥) → (room : ℕ)
+    → judgedFields room at r ≡ Fault 3
 typed-other {at} {r} small v w room = of (kind-of at r small)
   where
     of : Kind at r → judgedFields room at r ≡ Fault 3

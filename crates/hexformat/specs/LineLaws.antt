@@ -22,7 +22,7 @@ use Rattle.hexformat.specs.ComesLaws.{count-small, read-data, read-end, 
 
 -- ---- the reader at a whole line
 
-pub data LineAt (room line : ℕ) (image l text y : List ℕ) : Type 0 where
+data LineAt (room line : ℕ) (image l text y : List ℕ) : Type 0 where
   isData : {r : Fields} → Form r l → Balanced r → IsData (length image) r → length image + length (r .contents) ≤ room
       → reading room (line + 1) (image ++ r .contents) [] text ≡ result y → LineAt room line image l text y
   isEnd : {r : Fields} → Form r l → Balanced r → IsEnd r → text ≡ [] → image ≡ y → LineAt room line image l text y
@@ -35,7 +35,8 @@ judged-at room line image l [] y taken (end f z d) e = isEnd f z d refl (same-re
 judged-at room line image l (c ∷ text) y taken (end f z d) e = refused-not e
 judged-at room line image l text y taken (fault b) e = refused-not e
 
-line-at : (room line : ℕ) (image text y : List ℕ) {l : List ℕ} → WholeLine l → reading room line image [] (l ++ text) ≡ result y → LineAt room line image l text y
+line-at : (room line : ℕ) (image text y : List ℕ) {l : List ℕ} → WholeLine l → reading room line image [] (l ++ text) ≡ result y
+    → LineAt room line image l text y
 line-at room line image text y w e =
     let inside : List ℕ = w .inside in
     rw (w .is)
@@ -49,7 +50,9 @@ unfolding after
 elsewhere room line at image text {r} f z d differ =
     reading-form room line image text f (Fault 3)
     (judge-balanced r (f .spelled) room (length image) z
-    ∙ typed-other (count-small f) (λ (d′ : IsData (length image) r). differ (sym (d′ .starts) ∙ d .starts)) (λ (d′ : IsEnd r). omega (arith, d .type-00, d′ .type-01)) room)
+    ∙ typed-other (count-small f)
+    (λ (d′ : IsData (length image) r). differ (sym (d′ .starts) ∙ d .starts))
+    (λ (d′ : IsEnd r). omega (arith, d .type-00, d′ .type-01)) room)
 
 -- an end record with text after it
 end-goes-on : (room line : ℕ) (image text : List ℕ) {r : Fields} {l : List ℕ} → Form r l → Balanced r → IsEnd r → 0 < length text
@@ -77,7 +80,8 @@ past-line room line image l before rest y h (isData {r = r} f z d k n) go =
     }
 past-line room line image l before rest y h (isEnd f z d n q) go = absurd (omega (arith, ap length n, length-append before rest))
 
-past : (room line : ℕ) (image rest y : List ℕ) {before : List ℕ} → WholeLines before → 0 < length rest → reading room line image [] (before ++ rest) ≡ result y
+past : (room line : ℕ) (image rest y : List ℕ) {before : List ℕ} → WholeLines before → 0 < length rest
+    → reading room line image [] (before ++ rest) ≡ result y
     → Passed room line image before
 past room line image rest y none h e = record { line′ = line; image′ = image; same = λ text. refl }
 past room line image rest y (more {line = l} {text = before} w lines) h e =
@@ -93,7 +97,9 @@ first : (text : List ℕ) → First text
 first [] = unended (λ i e. omega arith)
 first (c ∷ text) =
     decide (eqb c 10)
-    (λ (q : eqb c 10 ≡ true). whole (10 ∷ []) text (record { inside = []; is = refl; no-line-feed = λ i e. omega arith }) (ap (λ (b : ℕ). b ∷ text) (eqb-true c 10 q)))
+    (λ (q : eqb c 10 ≡ true).
+    let line : WholeLine (10 ∷ []) = record { inside = []; is = refl; no-line-feed = λ i e. omega arith } in
+    whole (10 ∷ []) text line (ap (λ (b : ℕ). b ∷ text) (eqb-true c 10 q)))
     (λ (q : eqb c 10 ≡ false). longer (eqb-false c 10 q) (first text))
   where
     without : (l : List ℕ) → (c ≡ 10 → ⊥) → NoLineFeed l → NoLineFeed (c ∷ l)
@@ -102,7 +108,9 @@ first (c ∷ text) =
 
     longer : (c ≡ 10 → ⊥) → First text → First (c ∷ text)
     longer n (whole l t w e) =
-        whole (c ∷ l) t (record { inside = c ∷ w .inside; is = ap (λ (m : List ℕ). c ∷ m) (w .is); no-line-feed = without (w .inside) n (w .no-line-feed) }) (ap (λ (m : List ℕ). c ∷ m) e)
+        let line : WholeLine (c ∷ l) =
+        record { inside = c ∷ w .inside; is = ap (λ (m : List ℕ). c ∷ m) (w .is); no-line-feed = without (w .inside) n (w .no-line-feed) } in
+        whole (c ∷ l) t line (ap (λ (m : List ℕ). c ∷ m) e)
     longer n (unended w) = unended (without text n w)
 
 -- ---- a line of a good text
@@ -136,7 +144,8 @@ module _ (room line : ℕ) (x y z rest : List ℕ) where
       refused-not (sym (read-data room line x (l ++ rest) f b d h ∙ elsewhere room (line + 1) (length x) (x ++ r .contents) rest f b d o) ∙ e)
   doubled {l} w (isEnd f b d n q) e = refused-not (sym (end-goes-on room line x (l ++ rest) f b d (omega (arith, length-append l rest, whole-length w))) ∙ e)
 
-  exchanged : {l m : List ℕ} → WholeLine l → WholeLine m → LineAt room line x l (m ++ rest) y → reading room line x [] (m ++ (l ++ rest)) ≡ result z → ⊥
+  exchanged : {l m : List ℕ} → WholeLine l → WholeLine m → LineAt room line x l (m ++ rest) y → reading room line x [] (m ++ (l ++ rest)) ≡ result z
+      → ⊥
   exchanged {l} {m} v w (isEnd f b d n q) e = omega (arith, ap length n, length-append m rest, whole-length w)
   exchanged {l} {m} v w (isData {r = r} f b d h n) e = at-next (line-at room (line + 1) (x ++ r .contents) rest y w n)
     where
@@ -173,7 +182,8 @@ module _ (image other before rest : List ℕ) (lines : WholeLines before) where
   room = length image + length other
 
   -- two good texts, one of which lacks a line: it held the last data of the other's image
-  pub one-lost : (line : List ℕ) → WholeLine line → GoodText image (before ++ line ++ rest) → GoodText other (before ++ rest) → LastData image line rest other
+  pub one-lost : (line : List ℕ) → WholeLine line → GoodText image (before ++ line ++ rest) → GoodText other (before ++ rest)
+      → LastData image line rest other
   one-lost line w g g′ =
       let f = found image other rest rest lines w (rw (append-assoc before line rest) at g) g′ in
       lost room (f .number) (f .held) image other rest (f .first-is) (f .second-is)
@@ -186,7 +196,8 @@ module _ (image other before rest : List ℕ) (lines : WholeLines before) where
       doubled room (f .number) (f .held) image other rest w (f .first-is) (f .second-is)
 
   -- no good text is another with two neighbouring lines exchanged
-  pub two-exchanged : (line after : List ℕ) → WholeLine line → WholeLine after → GoodText image (before ++ line ++ after ++ rest) → GoodText other (before ++ after ++ line ++ rest) → ⊥
+  pub two-exchanged : (line after : List ℕ) → WholeLine line → WholeLine after → GoodText image (before ++ line ++ after ++ rest)
+      → GoodText other (before ++ after ++ line ++ rest) → ⊥
   two-exchanged line after v w g g′ =
       let s : before ++ line ++ after ++ rest ≡ before ++ (line ++ (after ++ rest)) = simp append-assoc in
       let t : before ++ after ++ line ++ rest ≡ before ++ (after ++ (line ++ rest)) = simp append-assoc in

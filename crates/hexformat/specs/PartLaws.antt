@@ -109,7 +109,8 @@ module _ (room line : ℕ) (image : List ℕ) where
   unfolding after
   reads-on l text y h e = on (judge room (length image) (bare l)) text h e
     where
-      on : {next : Outcome} (j : Record) (text : List ℕ) → 0 < length text → after j line image text next ≡ result y → (n : ℕ) × (j ≡ Data n) × (next ≡ result y)
+      on : {next : Outcome} (j : Record) (text : List ℕ) → 0 < length text → after j line image text next ≡ result y
+          → (n : ℕ) × (j ≡ Data n) × (next ≡ result y)
       on (Data n) text h e = (n, refl, e)
       on End [] h e = absurd (omega arith)
       on End (c ∷ text) h e = refused-not e

@@ -58,7 +58,9 @@ module _ {b l : List ℕ} (s : Spelled b l) where
   colon-without c p q (suc i) e = digits-without l c (spelled-digits s) p q i e
 
   return-without : NoLineFeed (58 ∷ l ++ 13 ∷ [])
-  return-without = without-append 10 (58 ∷ l) (13 ∷ []) (colon-without 10 (omega arith) (omega arith)) (without-one 10 13 (omega arith) (λ (e : 13 ≡ 10). omega arith))
+  return-without =
+      without-append 10 (58 ∷ l) (13 ∷ []) (colon-without 10 (omega arith) (omega arith))
+      (without-one 10 13 (omega arith) (λ (e : 13 ≡ 10). omega arith))
 
   -- the reader at a colon, digits and a line end
   reading-spelled : (room line : ℕ) (image text : List ℕ) {e : List ℕ} → LineEnd e → reading room line image [] ((58 ∷ l ++ e) ++ text)

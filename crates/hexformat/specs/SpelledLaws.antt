@@ -12,7 +12,7 @@ use Rattle.hextext.specs.Record.{digit, allDigits, bytesOf}
 use Rattle.hextext.specs.RecordLaws.{digit-decimal, digit-upper-case, digit-lower-case, digit-low, digit-between, digit-gap, digit-high}
 use Rattle.hexformat.specs.Format.{Digit, decimal, upperCase, lowerCase, Spelled, nothing, pair}
 
-pub digit-small : {c n : ℕ} → Digit c n → n < 16
+digit-small : {c n : ℕ} → Digit c n → n < 16
 digit-small (decimal h e) = omega arith
 digit-small (upperCase g h e) = h
 digit-small (lowerCase g h e) = h

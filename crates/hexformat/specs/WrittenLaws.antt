@@ -103,7 +103,8 @@ module _ (most : ℕ) {count : ℕ} {x before : List ℕ} (z : List ℕ) (lines 
       (λ (m : 16 ≤ length z). ap (λ (n : ℕ). writing most n (drop 16 z)) (omega (arith, length-append x piece, length-take 16 z)))
       (λ (m : length z < 16). rw (drop-of-length-le z (le-of-lt m), writing-nothing most (length (x ++ piece)), writing-nothing most (length x + 16)))
 
-  then-good : GoodText (x ++ piece ++ drop 16 z) (before ++ line ++ writing most (length (x ++ piece)) (drop 16 z)) → GoodText (x ++ z) (before ++ (line ++ writing most (length x + 16) (drop 16 z)))
+  then-good : GoodText (x ++ piece ++ drop 16 z) (before ++ line ++ writing most (length (x ++ piece)) (drop 16 z))
+      → GoodText (x ++ z) (before ++ (line ++ writing most (length x + 16) (drop 16 z)))
   then-good g =
       let whole : x ++ piece ++ drop 16 z ≡ x ++ z = append-assoc x piece (drop 16 z) ∙ ap (λ (m : List ℕ). x ++ m) (take-append-drop 16 z) in
       let text : before ++ line ++ writing most (length (x ++ piece)) (drop 16 z) ≡ before ++ (line ++ writing most (length x + 16) (drop 16 z)) =
@@ -111,7 +112,8 @@ module _ (most : ℕ) {count : ℕ} {x before : List ℕ} (z : List ℕ) (lines 
       rw (whole, text) at g
 
 -- what is written after lines that hold the image's first bytes x, of the rest y
-pub writing-good : (most : ℕ) {count : ℕ} {x before : List ℕ} (y : List ℕ) → DataLines count x before → AllBytes y → length x + length y ≤ 65536 → length y ≤ most
+pub writing-good : (most : ℕ) {count : ℕ} {x before : List ℕ} (y : List ℕ) → DataLines count x before → AllBytes y → length x + length y ≤ 65536
+    → length y ≤ most
     → GoodText (x ++ y) (before ++ writing most (length x) y)
 unfolding writing
 writing-good zero {x = x} [] lines w h k = rw (append-nil x) (end-good lines)
