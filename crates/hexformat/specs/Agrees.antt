@@ -1,5 +1,5 @@
 -- The reader keeps to the format: which texts it reads and as which image, and which it refuses, by which number at which line.
-use mathlib.Core.Path.{_≡_}
+use mathlib.Core.Path.{_≡_, sym, ap, _∙_}
 use mathlib.Core.Logic.{_↔_}
 use mathlib.Core.List.{List}
 use Prim.Native.Nat.{ℕ, _≤_, min}
@@ -26,3 +26,11 @@ module _ (size : ℕ) (text : List ℕ) where
   pub refused-known : (given : Refusal) → readText size text ≡ refused given → (1 ≤ given .number) × (given .number ≤ 4) × (1 ≤ given .detail)
   unfolding readText
   refused-known given e = refuses-known (rw e at (comes (min 4096 size) text))
+
+-- a text has one first fault at most
+pub one-fault : (room : ℕ) (text : List ℕ) (number line number′ line′ : ℕ) → Refuses room text number line → Refuses room text number′ line′
+    → (number ≡ number′) × (line ≡ line′)
+one-fault room text number line number′ line′ faulty faulty′ =
+    let e : refused (refusal number line) ≡ refused (refusal number′ line′) = sym (reads-refuses room faulty) ∙ reads-refuses room faulty′ in
+    let same : refusal number line ≡ refusal number′ line′ = cc in
+    (ap (λ (r : Refusal). r .number) same, ap (λ (r : Refusal). r .detail) same)

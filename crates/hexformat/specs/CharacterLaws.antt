@@ -1,4 +1,4 @@
--- Two good texts that differ in one character, of which one has one character more, or of which one is the beginning of the other.
+-- Two good texts that differ in one character or in the order of two, of which one has a character more, or of which one begins the other.
 use mathlib.Core.Path.{_≡_, refl, sym, ap, _∙_}
 use mathlib.Core.Bool.{true, false}
 use mathlib.Core.List.{List, [], _∷_, _++_, append-nil, append-assoc}
@@ -20,7 +20,7 @@ use Rattle.hexformat.specs.BareLaws.{snoc, bare-return, bare-append, bar
 use Rattle.hexformat.specs.ReadingLaws.{refused-not, same-result, ended}
 use Rattle.hexformat.specs.PartLaws.{digit-inside, return-inside, formed-odd, longer-by-one, Sound, sound-line, no-empty-line, starts-colon, no-colon, reads-on, Part, part-good}
 
--- ---- two sound lines
+-- ---- they part at a character each
 
 module _ (b c : ℕ) (differ : b ≡ c → ⊥) where
   alike : (u w : List ℕ) → Sound (u ++ b ∷ w) → Sound (u ++ c ∷ w) → SameDigit b c × (recordBytes (u ++ b ∷ w) ≡ recordBytes (u ++ c ∷ w))
@@ -53,30 +53,6 @@ module _ (b c : ℕ) (differ : b ≡ c → ⊥) where
       let l = bare-last u b (eqb-false b 13 p) in
       let m = bare-last u c (eqb-false c 13 q) in
       rw (l, m) (alike u [] (rw l at s) (rw m at t))))
-
--- where a line is formed with its last CR taken off and as it is, it has none
-no-return : (l : List ℕ) → formed (bare l) ≡ true → formed l ≡ true → bare l ≡ l
-unfolding bare
-no-return l e f =
-    let n : ℕ = length l - 1 in
-    let h = formed-long l f in
-    decide (eqb (getD l n 0) 13)
-    (λ (q : eqb (getD l n 0) 13 ≡ true). absurd (formed-odd (take n l) l (rw q at e) f (omega (arith, length-take n l))))
-    (λ (q : eqb (getD l n 0) 13 ≡ false). rw q)
-
--- a line that is formed but for its CR gets no character more
-no-longer : (l : List ℕ) (c : ℕ) → formed (bare l) ≡ true → formed (l ++ c ∷ []) ≡ true → ⊥
-unfolding bare
-no-longer l c e f =
-    let n : ℕ = length l - 1 in
-    let h = formed-long (l ++ c ∷ []) f in
-    decide (eqb (getD l n 0) 13)
-    (λ (q : eqb (getD l n 0) 13 ≡ true).
-    let p : l ≡ take n l ++ 13 ∷ [] = snoc l n (omega (arith, longer-by-one l c)) ∙ ap (λ (b : ℕ). take n l ++ b ∷ []) (eqb-true (getD l n 0) 13 q) in
-    return-inside (take n l) (c ∷ []) (rw (p, append-assoc (take n l) (13 ∷ []) (c ∷ [])) at f))
-    (λ (q : eqb (getD l n 0) 13 ≡ false). formed-odd l (l ++ c ∷ []) (rw q at e) f (longer-by-one l c))
-
--- ---- they part at a character each
 
 -- a line that is read, with a colon after it
 colon-after : (room line : ℕ) (image u text z : List ℕ) → Sound (bare u) → reading room line image (u ++ 58 ∷ []) text ≡ result z → ⊥
@@ -221,6 +197,28 @@ exchanged-apart image other before rest b c g g′ differ =
     exchanged-at-place (length image + length other) b c differ rest image other (part-good before (b ∷ c ∷ rest) (c ∷ b ∷ rest) g g′ (omega arith))
 
 -- ---- one of them has a character more
+
+-- where a line is formed with its last CR taken off and as it is, it has none
+no-return : (l : List ℕ) → formed (bare l) ≡ true → formed l ≡ true → bare l ≡ l
+unfolding bare
+no-return l e f =
+    let n : ℕ = length l - 1 in
+    let h = formed-long l f in
+    decide (eqb (getD l n 0) 13)
+    (λ (q : eqb (getD l n 0) 13 ≡ true). absurd (formed-odd (take n l) l (rw q at e) f (omega (arith, length-take n l))))
+    (λ (q : eqb (getD l n 0) 13 ≡ false). rw q)
+
+-- a line that is formed but for its CR gets no character more
+no-longer : (l : List ℕ) (c : ℕ) → formed (bare l) ≡ true → formed (l ++ c ∷ []) ≡ true → ⊥
+unfolding bare
+no-longer l c e f =
+    let n : ℕ = length l - 1 in
+    let h = formed-long (l ++ c ∷ []) f in
+    decide (eqb (getD l n 0) 13)
+    (λ (q : eqb (getD l n 0) 13 ≡ true).
+    let p : l ≡ take n l ++ 13 ∷ [] = snoc l n (omega (arith, longer-by-one l c)) ∙ ap (λ (b : ℕ). take n l ++ b ∷ []) (eqb-true (getD l n 0) 13 q) in
+    return-inside (take n l) (c ∷ []) (rw (p, append-assoc (take n l) (13 ∷ []) (c ∷ [])) at f))
+    (λ (q : eqb (getD l n 0) 13 ≡ false). formed-odd l (l ++ c ∷ []) (rw q at e) f (longer-by-one l c))
 
 module _ (room line : ℕ) (image : List ℕ) (c : ℕ) where
   -- the line with the character more ends here

@@ -21,7 +21,7 @@ use Rattle.hexformat.specs.Damage.{IsRefused, SameDigit, SpareReturn, Wh
 use Rattle.hexformat.specs.SpelledLaws.{spelled-of}
 use Rattle.hexformat.specs.ReadingLaws.{form-whole}
 use Rattle.hexformat.specs.JudgedLaws.{form-formed}
-use Rattle.hexformat.specs.Agrees.{read-exactly, refused-exactly, refused-known}
+use Rattle.hexformat.specs.Agrees.{read-exactly, refused-exactly, refused-known, one-fault}
 use Rattle.hexformat.specs.GoodTexts.{one-image, image-is-bytes, text-is-lines, text-length-bound, read-length-bound}
 use Rattle.hexformat.specs.RoundTrip.{written-is-good, written-reads-back, read-reads-back, is-written, there-and-back, length-of-full-records, length-with-a-rest}
 use Rattle.hexformat.specs.Damaged.{character-replaced, digit-changed, characters-exchanged, character-lost, character-added, cut-off, line-lost, line-doubled, lines-exchanged}
@@ -178,6 +178,9 @@ refused-met = refused-exactly 4096 (characters ":020000005101AD\n:00000001FF\n")
 
 refused-known-met : (1 ≤ 2) × (2 ≤ 4) × (1 ≤ 1)
 refused-known-met = refused-known 4096 (characters ":020000005101AD\n:00000001FF\n") (refusal 2 1) refuses
+
+one-fault-met : _≡_ {A = ℕ} 2 2 × _≡_ {A = ℕ} 1 1
+one-fault-met = one-fault 4096 (characters ":020000005101AD\n:00000001FF\n") 2 1 2 1 refused-met refused-met
 
 one-image-met : image ≡ image
 one-image-met = one-image image image text good good

@@ -42,16 +42,14 @@ formed-odd l m e f q = omega (arith, formed-length l e, formed-length m f)
 pub longer-by-one : (u : List ℕ) (c : ℕ) → length (u ++ c ∷ []) ≡ length u + 1
 longer-by-one u c = length-append u (c ∷ [])
 
--- ---- two sound lines
+-- ---- a line that is read
 
 -- form and checksum are good
 pub record Sound (l : List ℕ) : Type 0 where
   pub well-formed : formed l ≡ true
   pub balanced : total (recordBytes l) % 256 ≡ 0
 
--- ---- a line that is read
-
--- it is sound
+-- a line that is read is sound
 pub sound-line : (room line : ℕ) (image l text y : List ℕ) → ended room line image l text ≡ result y → Sound (bare l)
 unfolding judge summed after
 sound-line room line image l text y e =
