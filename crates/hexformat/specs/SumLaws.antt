@@ -1,4 +1,4 @@
--- The sum of the bytes that digits spell, as a function of one of the digits.
+-- The sum of the bytes that digits spell, as a function of one of the digits, or of two side by side.
 use mathlib.Core.Path.{_≡_, refl}
 use mathlib.Core.Logic.{_⊎_, inl, inr, ⊎-elim}
 use mathlib.Core.List.{List, [], _∷_, _++_}
