@@ -1,0 +1,1 @@
+// No code: what is proved of HEX texts stands in specs/.
