@@ -4,10 +4,10 @@ use mathlib.Core.Bool.{Bool, true, false, cond}
 use mathlib.Core.List.{List, [], _∷_, _++_}
 use Prim.Native.Nat.{ℕ, zero, suc, _+_, _-_, _≤_, _<_}
 use native.Mathlib.Omega.{arith}
+use borrow.Author.Tests.{ne-eqb}
 use lib.Dec.{eqb}
 use lib.ListN.{length, take, drop, getD, length-append, take-append-drop, drop-of-length-le}
 use lib.Seq.{drop-cons, getD-append-seam, take-append-seam, getD-append-add, take-append-add}
-use borrow.Author.Tests.{ne-eqb}
 use Rattle.hextext.specs.Text.{bare}
 
 -- no place of the list holds c

@@ -6,6 +6,7 @@ use mathlib.Core.List.{List, [], _∷_, _++_}
 use Prim.Native.Nat.{ℕ, zero, suc, _*_, _≤_}
 use native.Mathlib.Omega.{arith}
 use lib.ListN.{length, replicate}
+use Rattle.laws.specs.Bytes.{Bytes}
 use Rattle.laws.specs.Cases.{never}
 use Rattle.laws.specs.Sums.{total}
 use Rattle.refusals.specs.declared.Filled.{Filled}
@@ -15,7 +16,7 @@ use Rattle.hextext.specs.Record.{digit, allDigits, bytesOf, formed}
 use Rattle.hextext.specs.Text.{bare, readText}
 use Rattle.hextext.specs.Written.{hexDigit, spell, checksum, headAndData, recordText, writing, textOf, textLength, writeImage}
 use Rattle.hexformat.specs.Characters.{characters}
-use Rattle.hexformat.specs.Format.{upperCase, LineEnd, lf, crlf, Fields, bytes, Form, Balanced, IsData, IsEnd, none, next, GoodText, AllBytes}
+use Rattle.hexformat.specs.Format.{upperCase, LineEnd, lf, crlf, Fields, bytes, Form, Balanced, IsData, IsEnd, none, next, GoodText}
 use Rattle.hexformat.specs.Faults.{Refuses, stops, breaks, goesOn, noForm, notBalanced, neither, noRoom}
 use Rattle.hexformat.specs.Damage.{IsRefused, SameDigit, SpareReturn, WholeLines, none as no-lines, LastData}
 use Rattle.hexformat.specs.SpelledLaws.{spelled-of}
@@ -80,7 +81,7 @@ writes = refl
 pub writes-28 : length (textOf image) ≡ 28
 writes-28 = rw writes
 
-are-bytes : AllBytes image
+are-bytes : Bytes image
 are-bytes zero = omega arith
 are-bytes (suc zero) = omega arith
 are-bytes (suc (suc i)) = omega arith
@@ -185,7 +186,7 @@ one-fault-met = one-fault 4096 (characters ":020000005101AD\n:00000001FF\n") 2 1
 one-image-met : image ≡ image
 one-image-met = one-image image image text good good
 
-image-is-bytes-met : AllBytes image
+image-is-bytes-met : Bytes image
 image-is-bytes-met = image-is-bytes image text good
 
 text-is-lines-met : WholeLines text

@@ -3,7 +3,7 @@
 use mathlib.Core.Path.{_≡_}
 use mathlib.Core.List.{List, [], _∷_, _++_}
 use Prim.Native.Nat.{ℕ, _+_, _-_, _/_, _%_, _≤_, _<_}
-use lib.ListN.{length, getD}
+use lib.ListN.{length}
 use Rattle.laws.specs.Sums.{total}
 
 -- ---- characters
@@ -83,11 +83,3 @@ pub record GoodText (image text : List ℕ) : Type 0 where
   pub formed : Form end last
   pub balanced : Balanced end
   pub ends : IsEnd end
-
--- ---- an image
-
-abbrev pub IsByte : ℕ → Type 0
-IsByte n = n < 256
-
-abbrev pub AllBytes : List ℕ → Type 0
-AllBytes image = (i : ℕ) → IsByte (getD image i 0)

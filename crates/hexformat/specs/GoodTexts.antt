@@ -6,10 +6,10 @@ use native.Mathlib.Omega.{arith}
 use lib.ListN.{length, length-append}
 use Rattle.refusals.specs.Refusals.{result}
 use Rattle.hextext.specs.Text.{readText}
-use Rattle.hexformat.specs.Format.{LineEnd, lf, crlf, Fields, Form, DataLines, none, next, GoodText, AllBytes}
+use Rattle.laws.specs.Bytes.{Bytes, bytes-nil, bytes-append, bytes-front}
+use Rattle.hexformat.specs.Format.{LineEnd, lf, crlf, Fields, Form, DataLines, none, next, GoodText}
 use Rattle.hexformat.specs.Faults.{WholeLine}
 use Rattle.hexformat.specs.Damage.{WholeLines, none as no-lines, more}
-use Rattle.hexformat.specs.BytesLaws.{bytes-nil, bytes-append, bytes-front}
 use Rattle.hexformat.specs.SpelledLaws.{spelled-small, spelled-length}
 use Rattle.hexformat.specs.ReadingLaws.{same-result, length-bytes, form-whole}
 use Rattle.hexformat.specs.ComesLaws.{reads-good}
@@ -23,15 +23,15 @@ one-image image other text good good′ =
 
 -- ---- bytes
 
-contents-bytes : {r : Fields} {l : List ℕ} → Form r l → AllBytes (r .contents)
+contents-bytes : {r : Fields} {l : List ℕ} → Form r l → Bytes (r .contents)
 contents-bytes {r} f = bytes-front (r .contents) (r .checksum ∷ []) (λ i. spelled-small (f .spelled) (suc (suc (suc (suc i)))))
 
-held-bytes : {count : ℕ} {image text : List ℕ} → DataLines count image text → AllBytes image
+held-bytes : {count : ℕ} {image text : List ℕ} → DataLines count image text → Bytes image
 held-bytes none = bytes-nil
 held-bytes (next {image = image} {fields = r} lines f z d) = bytes-append image (r .contents) (held-bytes lines) (contents-bytes f)
 
 -- the image of a good text is bytes
-pub image-is-bytes : (image text : List ℕ) → GoodText image text → AllBytes image
+pub image-is-bytes : (image text : List ℕ) → GoodText image text → Bytes image
 image-is-bytes image text good = held-bytes (good .holds)
 
 -- ---- lines

@@ -4,10 +4,10 @@ use mathlib.Core.Bool.{Bool, true, false, cond, _&&_}
 use mathlib.Core.List.{List, [], _∷_, _++_, append-nil, append-assoc}
 use Prim.Native.Nat.{ℕ, suc, _+_, _-_, _*_, _%_, _/_, _≤_, _<_}
 use native.Mathlib.Omega.{arith}
+use borrow.Author.Tests.{eq-eqb, lt-ltb, le-leb, lt-leb, eqb-true, eqb-false, ltb-true}
 use lib.Dec.{eqb, ltb, leb}
 use lib.ListN.{length, take, getD, length-append}
 use lib.Seq.{length-take-le, take-append-seam}
-use borrow.Author.Tests.{eq-eqb, lt-ltb, le-leb, lt-leb, eqb-true, eqb-false, ltb-true}
 use Rattle.laws.specs.Cases.{split, decide, never, both-left, both-right}
 use Rattle.laws.specs.Sums.{total}
 use Rattle.hextext.specs.Record.{bytesOf, recordBytes, countOf, dataOf, formed, typed, judge}

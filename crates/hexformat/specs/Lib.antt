@@ -7,7 +7,6 @@ pub mod RoundTrip
 pub mod Damaged
 pub mod Characters
 pub mod Examples
-pub mod BytesLaws
 pub mod SpelledLaws
 pub mod BareLaws
 pub mod ReadingLaws

@@ -4,9 +4,9 @@ use mathlib.Core.Bool.{true}
 use mathlib.Core.List.{List, [], _∷_, _++_, append-nil, append-assoc}
 use Prim.Native.Nat.{ℕ, zero, suc, _+_, _*_, _%_, _/_, _<_}
 use native.Mathlib.Omega.{arith}
+use borrow.Author.Tests.{eq-eqb, ne-eqb}
 use lib.ListN.{length, getD, length-append, List·getD-eq-default}
 use lib.Seq.{take-append-seam}
-use borrow.Author.Tests.{eq-eqb, ne-eqb}
 use Rattle.laws.specs.Cases.{split}
 use Rattle.laws.specs.Sums.{total}
 use Rattle.refusals.specs.declared.Refusal.{Refusal}

@@ -4,22 +4,23 @@ use mathlib.Core.Bool.{true, false}
 use mathlib.Core.List.{List, _++_}
 use Prim.Native.Nat.{ℕ, _+_, _-_, _*_, _≤_, _<_}
 use native.Mathlib.Omega.{arith}
+use borrow.Author.Tests.{leb-true, le-leb}
 use lib.Dec.{leb}
 use lib.ListN.{length, take, replicate}
 use lib.Seq.{take-at}
-use borrow.Author.Tests.{leb-true, le-leb}
+use Rattle.laws.specs.Bytes.{Bytes}
 use Rattle.laws.specs.Cases.{decide}
 use Rattle.refusals.specs.declared.Filled.{Filled}
 use Rattle.refusals.specs.declared.Filled.the-variants.{Length}
 use Rattle.refusals.specs.Refusals.{result, Fills}
 use Rattle.hextext.specs.Text.{readText}
 use Rattle.hextext.specs.Written.{recordText, textOf, textLength, writeImage}
-use Rattle.hexformat.specs.Format.{AllBytes, GoodText, none}
+use Rattle.hexformat.specs.Format.{GoodText, none}
 use Rattle.hexformat.specs.Agrees.{read-exactly}
 use Rattle.hexformat.specs.GoodTexts.{image-is-bytes}
 use Rattle.hexformat.specs.WrittenLaws.{writing-good, length-textOf, length-recordText, textLength-full, textLength-rest}
 
-module _ (image : List ℕ) (are-bytes : AllBytes image) where
+module _ (image : List ℕ) (are-bytes : Bytes image) where
   -- what is written of an image is a good text of it
   pub written-is-good : length image ≤ 4096 → GoodText image (textOf image)
   unfolding textOf
@@ -68,7 +69,7 @@ wrote image before after n fills =
 -- whatever writing and then reading may answer by their contracts, it is the same image again:
 -- where the writer answers n characters and the reader reads those into a buffer that the image fits, the answer is the image's length, and the buffer
 -- holds the image and zeros after it
-pub there-and-back : (image text text′ buffer buffer′ : List ℕ) (n : ℕ) (answer : Filled) → AllBytes image
+pub there-and-back : (image text text′ buffer buffer′ : List ℕ) (n : ℕ) (answer : Filled) → Bytes image
     → Fills (writeImage (length text) image) text (Length n) text′
     → Fills (readText (length buffer) (take n text′)) buffer answer buffer′
     → length image ≤ length buffer

@@ -4,13 +4,13 @@ use mathlib.Core.List.{List, [], _∷_, _++_, append-nil, append-assoc}
 use Prim.Native.Nat.{ℕ, zero, suc, _+_, _*_, _%_, _/_, _≤_, _<_}
 use native.Mathlib.Omega.{arith}
 use native.Mathlib.Nat.{le-of-lt}
-use lib.ListN.{length, take, drop, length-append, length-take, length-drop, take-append-drop, drop-of-length-le}
 use borrow.Author.Tests.{lt-ltb, le-ltb, ne-eqb}
+use lib.ListN.{length, take, drop, length-append, length-take, length-drop, take-append-drop, drop-of-length-le}
 use Rattle.laws.specs.Cases.{split}
 use Rattle.laws.specs.Sums.{total}
 use Rattle.hextext.specs.Written.{hexDigit, spell, checksum, headAndData, recordText, writing, textOf, textLength}
-use Rattle.hexformat.specs.BytesLaws.{bytes-nil, bytes-cons, bytes-append, bytes-take, bytes-drop}
-use Rattle.hexformat.specs.Format.{Digit, decimal, upperCase, Spelled, nothing, pair, lf, Fields, Form, Balanced, DataLines, next, GoodText, AllBytes}
+use Rattle.laws.specs.Bytes.{Bytes, bytes-nil, bytes-cons, bytes-append, bytes-take, bytes-drop}
+use Rattle.hexformat.specs.Format.{Digit, decimal, upperCase, Spelled, nothing, pair, lf, Fields, Form, Balanced, DataLines, next, GoodText}
 
 -- ---- a record
 
@@ -21,7 +21,7 @@ digit-written n h =
     (λ k. rw (le-ltb n 10 k) (upperCase k h (omega arith)))
     (λ k. rw (lt-ltb n 10 k) (decimal k refl))
 
-spelled-written : (b : List ℕ) → AllBytes b → Spelled b (spell b)
+spelled-written : (b : List ℕ) → Bytes b → Spelled b (spell b)
 unfolding spell
 spelled-written [] w = nothing
 spelled-written (b ∷ l) w =
@@ -44,15 +44,15 @@ module _ (address type : ℕ) (d : List ℕ) where
       let h : List ℕ = headAndData address type d in
       rw (total-append h (checksum h ∷ [])) (omega arith)
 
-  written-form : address < 65536 → type < 256 → length d < 256 → AllBytes d → Form (written address type d) (recordText address type d)
+  written-form : address < 65536 → type < 256 → length d < 256 → Bytes d → Form (written address type d) (recordText address type d)
   unfolding headAndData checksum recordText
   written-form ha ht hd w =
       let h : List ℕ = headAndData address type d in
-      let a : AllBytes h =
+      let a : Bytes h =
       bytes-cons (length d) (address / 256 ∷ address % 256 ∷ type ∷ d) hd
       (bytes-cons (address / 256) (address % 256 ∷ type ∷ d) (omega arith)
       (bytes-cons (address % 256) (type ∷ d) (omega arith) (bytes-cons type d ht w))) in
-      let c : AllBytes (h ++ checksum h ∷ []) = bytes-append h (checksum h ∷ []) a (bytes-cons (checksum h) [] (omega arith) bytes-nil) in
+      let c : Bytes (h ++ checksum h ∷ []) = bytes-append h (checksum h ∷ []) a (bytes-cons (checksum h) [] (omega arith) bytes-nil) in
       record {
         digits = spell (h ++ checksum h ∷ []);
         ending = 10 ∷ [];
@@ -89,7 +89,7 @@ module _ (most : ℕ) {count : ℕ} {x before : List ℕ} (z : List ℕ) (lines 
   abbrev line : List ℕ
   line = recordText (length x) 0 piece
 
-  one-more : AllBytes z → length x + length z ≤ 65536 → 0 < length z → DataLines (count + 1) (x ++ piece) (before ++ line)
+  one-more : Bytes z → length x + length z ≤ 65536 → 0 < length z → DataLines (count + 1) (x ++ piece) (before ++ line)
   one-more w h p =
       let lt = length-take 16 z in
       next lines
@@ -112,7 +112,7 @@ module _ (most : ℕ) {count : ℕ} {x before : List ℕ} (z : List ℕ) (lines 
       rw (whole, text) at g
 
 -- what is written after lines that hold the image's first bytes x, of the rest y
-pub writing-good : (most : ℕ) {count : ℕ} {x before : List ℕ} (y : List ℕ) → DataLines count x before → AllBytes y → length x + length y ≤ 65536
+pub writing-good : (most : ℕ) {count : ℕ} {x before : List ℕ} (y : List ℕ) → DataLines count x before → Bytes y → length x + length y ≤ 65536
     → length y ≤ most
     → GoodText (x ++ y) (before ++ writing most (length x) y)
 unfolding writing

@@ -19,6 +19,10 @@ pub bytes-append : (l m : List ℕ) → Bytes l → Bytes m → Bytes (l ++ m)
 bytes-append [] m h k = k
 bytes-append (b ∷ l) m h k = bytes-cons b (l ++ m) (h 0) (bytes-append l m (λ i. h (suc i)) k)
 
+pub bytes-front : (l m : List ℕ) → Bytes (l ++ m) → Bytes l
+bytes-front [] m h = bytes-nil
+bytes-front (b ∷ l) m h = bytes-cons b l (h 0) (bytes-front l m (λ i. h (suc i)))
+
 pub bytes-take : (n : ℕ) (l : List ℕ) → Bytes l → Bytes (take n l)
 bytes-take zero l h = bytes-nil
 bytes-take (suc n) [] h = h
