@@ -7,3 +7,4 @@ pub mod Cases
 pub mod Lists
 pub mod Sums
 pub mod Tables
+pub mod Bytes

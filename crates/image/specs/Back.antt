@@ -1,0 +1,102 @@
+-- From an image to its sections and back: an image of bytes with a good layout is, byte for byte, the image of its own sections, which fit.
+use Prim.Native.Nat.{ℕ, zero, suc, _+_, _%_, _≤_}
+use native.Mathlib.Nat.{add-zero, zero-add}
+use native.Mathlib.Omega.{arith}
+use mathlib.Core.List.{List, _∷_, _++_}
+use mathlib.Core.Path.{_≡_, refl, sym, ap, _∙_}
+use lib.ListN.{length, drop, length-drop, take-append-drop}
+use lib.Seq.{drop-drop, drop-length, length-take-le}
+use Rattle.laws.specs.Bytes.{Bytes, bytes-drop}
+use Rattle.laws.specs.Lists.{drop-two}
+use Rattle.laws.specs.Sums.{total}
+use Rattle.numbers.specs.FieldsLaws.{byte-at, number-small}
+use Rattle.refusals.specs.declared.Verdict.the-variants.{Accepted}
+use Rattle.image.specs.Layout.{lineCount, linePlace, kindAt, zeroAt, offsetAt, lengthAt, sumAt, bodyAt, linesVerdict, sumsVerdict, layoutVerdict}
+use Rattle.image.specs.Sections.{Section, sectionsFrom, sections, contentsFrom, bodiesOf, imageOf, Rising, Fit}
+use Rattle.image.specs.LineLaws.{line-spelled}
+use Rattle.image.specs.LayoutLaws.{line-passed, lines-ended, sum-passed, layout-passed}
+use Rattle.image.specs.RoundTrip.{Holds}
+
+pub sections-count : (image : List ℕ) (left i : ℕ) → length (sectionsFrom image left i) ≡ left
+unfolding sectionsFrom
+sections-count image zero i = refl
+sections-count image (suc left) i = ap suc (sections-count image left (i + 1))
+
+-- ---- the image holds its sections
+
+rising-back : (image : List ℕ) (left i previous offset : ℕ) → Bytes image → linesVerdict image left i previous offset ≡ Accepted
+    → Rising previous (sectionsFrom image left i)
+unfolding sectionsFrom
+rising-back image zero i previous offset b e = tt
+rising-back image (suc left) i previous offset b e =
+    let p = line-passed image left i previous offset e in
+    let small = number-small 1 image (linePlace i) b in
+    (p .right .rises, omega arith, rising-back image left (i + 1) (kindAt image i) (offset + lengthAt image i) b (p .others))
+
+-- a line before the others, whose body stands before theirs
+module _ (image : List ℕ) (i offset : ℕ) (ss : List Section) (h : Holds image (i + 1) (offset + lengthAt image i) ss) (starts : offsetAt image i ≡ offset) where
+  body-long : length (bodyAt image i) ≡ lengthAt image i
+  body-long = rw starts (length-take-le (lengthAt image i) (drop offset image) (omega (arith, length-drop offset image, h .within)))
+
+  bodies-more : drop offset image ≡ bodyAt image i ++ bodiesOf ss
+  bodies-more = rw (starts, ← h .bodies, ← drop-drop (lengthAt image i) offset image) (sym (take-append-drop (lengthAt image i) (drop offset image)))
+
+  holds-more : Bytes image → linePlace (i + 1) ≤ length image → zeroAt image i ≡ 0 → total (bodyAt image i) % 65536 ≡ sumAt image i
+      → Holds image i offset (record { kind = kindAt image i; body = bodyAt image i } ∷ ss)
+  unfolding contentsFrom bodiesOf
+  holds-more b room z sum =
+      let last : i + 1 + length ss ≡ i + suc (length ss) = omega arith in
+      record {
+        contents = rw (line-spelled image i b room z, h .contents, last, body-long, sum, starts);
+        bodies = bodies-more;
+        within = omega (arith, h .within);
+      }
+
+holds-back : (image : List ℕ) (left i previous offset : ℕ) → Bytes image → linePlace (i + left) ≤ length image
+    → linesVerdict image left i previous offset ≡ Accepted → sumsVerdict image left i ≡ Accepted
+    → Holds image i offset (sectionsFrom image left i)
+unfolding sectionsFrom contentsFrom bodiesOf
+holds-back image zero i previous offset b room e f =
+    let end = lines-ended image i previous offset e in
+    record { contents = rw (add-zero i); bodies = rw end (drop-length image); within = omega arith }
+holds-back image (suc left) i previous offset b room e f =
+    let p = line-passed image left i previous offset e in
+    let q = sum-passed image left i f in
+    let h = holds-back image left (i + 1) (kindAt image i) (offset + lengthAt image i) b (omega arith) (p .others) (q .others) in
+    holds-more image i offset (sectionsFrom image left (i + 1)) h (p .right .starts) b (omega arith) (p .right .zero-is) (q .right)
+
+-- ---- the whole image
+
+module _ (image : List ℕ) (b : Bytes image) (good : layoutVerdict image ≡ Accepted) where
+  held : Holds image 0 (linePlace (lineCount image)) (sections image)
+  unfolding sections
+  held =
+      let g = layout-passed image good in
+      holds-back image (lineCount image) 0 0 (linePlace (lineCount image)) b (rw (zero-add (lineCount image)) (g .counted .room)) (g .lines) (g .sums)
+
+  count-of : length (sections image) ≡ lineCount image
+  unfolding sections
+  count-of = sections-count image (lineCount image) 0
+
+  pub sections-fit : Fit (sections image)
+  sections-fit =
+      let g = layout-passed image good in
+      let count = count-of in
+      let long = ap length (held .bodies) in
+      record {
+        some = omega (arith, g .counted .some);
+        few = omega (arith, g .counted .few);
+        rising = unfold sections in rising-back image (lineCount image) 0 0 (linePlace (lineCount image)) b (g .lines);
+        room = omega (arith, g .counted .room, g .started .most, length-drop (linePlace (lineCount image)) image);
+      }
+
+  pub sections-bytes : Bytes (bodiesOf (sections image))
+  sections-bytes = rw (← held .bodies) (bytes-drop (linePlace (lineCount image)) image b)
+
+  pub image-of-sections : imageOf (sections image) ≡ image
+  unfolding imageOf
+  image-of-sections =
+      let g = layout-passed image good in
+      sym
+      (drop-two image 0 (g .started .enough)
+      ∙ rw (← byte-at image 0, g .started .marked, ← byte-at image 1, held .contents, zero-add (length (sections image)), count-of, held .bodies))

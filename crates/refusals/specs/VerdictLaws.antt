@@ -1,0 +1,38 @@
+-- Laws of checks in order: what passes, and what the first refusal stops.
+use mathlib.Core.Path.{_≡_, refl}
+use mathlib.Core.Bool.{Bool, true, false}
+use Prim.Native.Nat.{ℕ}
+use native.Mathlib.Omega.{arith}
+use Rattle.refusals.specs.declared.Refusal.{Refusal}
+use Rattle.refusals.specs.declared.Verdict.{Verdict}
+use Rattle.refusals.specs.declared.Verdict.the-variants.{Accepted, Refused}
+use Rattle.refusals.specs.Refusals.{refusal, ask, andThen}
+
+pub never-both {ℓ} : {X : Type ℓ} {v : Verdict} {r : Refusal} → v ≡ Refused r → v ≡ Accepted → X
+never-both e f = let z : _≡_ {A = ℕ} 0 1 = cc in absurd (omega arith)
+
+-- one check
+pub ask-passes : {holds : Bool} (number detail : ℕ) → holds ≡ true → ask holds number detail ≡ Accepted
+ask-passes number detail e = rw e
+
+pub ask-refuses : {holds : Bool} (number detail : ℕ) → holds ≡ false → ask holds number detail ≡ Refused (refusal number detail)
+ask-refuses number detail e = rw e
+
+pub asked : (holds : Bool) (number detail : ℕ) → ask holds number detail ≡ Accepted → holds ≡ true
+asked true number detail e = refl
+asked false number detail e = never-both refl e
+
+-- two checks, one after the other
+pub passes : {first : Verdict} (next : Verdict) → first ≡ Accepted → andThen first next ≡ next
+passes next e = rw e
+
+pub stops : {first : Verdict} {r : Refusal} (next : Verdict) → first ≡ Refused r → andThen first next ≡ Refused r
+stops next e = rw e
+
+pub first-passed : (first next : Verdict) → andThen first next ≡ Accepted → first ≡ Accepted
+first-passed Accepted next e = refl
+first-passed (Refused r) next e = e
+
+pub next-passed : (first next : Verdict) → andThen first next ≡ Accepted → next ≡ Accepted
+next-passed Accepted next e = e
+next-passed (Refused r) next e = never-both refl e
