@@ -1,9 +1,9 @@
--- Laws of numbers among bytes: a number of two halves, a byte, nothing past the end, a sign.
+-- Laws of numbers among bytes: a number of two halves, a byte, nothing past the end, a bound, a sign.
 use mathlib.Core.Path.{_≡_, refl, sym, ap, _∙_}
 use mathlib.Core.Bool.{Bool, cond}
 use mathlib.Core.List.{List, [], _∷_, _++_}
 use Prim.Native.Nat.{ℕ, zero, suc, _+_, _-_, _*_, _^_, _≤_, _<_}
-use native.Mathlib.Nat.{mul-assoc, mul-comm, pow-suc, zero-add}
+use native.Mathlib.Nat.{mul-assoc, mul-comm, one-le-pow, pow-suc, zero-add}
 use native.Mathlib.Omega.{arith}
 use native.Mathlib.Numerals.{add-one}
 use borrow.Author.Tests.{lt-ltb, le-ltb}
@@ -12,9 +12,11 @@ use lib.IntN.{ℤ, pos, negsuc, _-ℤ_}
 use mir.Syntax.{Width, w8, w16, w32, w64, w128}
 use mir.Val.{SFits, bits, hbits, toZ, ofZ}
 use mir.Facts.{toZ-pos, toZ-ofZ}
+use Rattle.laws.specs.Bytes.{Bytes, bytes-drop}
+use Rattle.laws.specs.Cases.{split}
 use Rattle.laws.specs.Magnitude.{natural-difference, difference-lt}
 use Rattle.laws.specs.Pattern.{past-minus-one}
-use lib.ListN.{length, take, drop, getD, drop-of-length-le}
+use lib.ListN.{length, take, drop, getD, drop-of-length-le, List·getD-eq-default}
 use lib.Seq.{drop-cons, drop-drop, take-add, take-all, take-nil}
 use Rattle.numbers.specs.Fields.{littleEndian, numberAt, twosComplement}
 
@@ -40,6 +42,35 @@ number-of-byte l place h = rw (drop-cons l place 0 h) (omega arith)
 pub number-past-end : (w : ℕ) (l : List ℕ) (place : ℕ) → length l ≤ place → 0 ≡ numberAt w l place
 unfolding numberAt littleEndian
 number-past-end w l place h = rw (drop-of-length-le l h, take-nil w)
+
+-- seen from a place before it
+pub number-from : (w : ℕ) (l : List ℕ) (from place : ℕ) → numberAt w (drop from l) place ≡ numberAt w l (from + place)
+unfolding numberAt
+number-from w l from place = rw (drop-drop place from l)
+
+-- one byte and two, wherever they stand
+pub byte-at : (l : List ℕ) (place : ℕ) → numberAt 1 l place ≡ getD l place 0
+byte-at l place =
+    split (length l) place
+    (λ (h : length l ≤ place). sym (number-past-end 1 l place h) ∙ sym (List·getD-eq-default l 0 h))
+    (λ (h : place < length l). sym (number-of-byte l place h))
+
+pub two-bytes-at : (l : List ℕ) (place : ℕ) → numberAt 2 l place ≡ getD l place 0 + 256 * getD l (place + 1) 0
+two-bytes-at l place = sym (number-of-halves 1 1 l place (sym (byte-at l place)) (sym (byte-at l (place + 1))))
+
+spelled-small : (w : ℕ) (l : List ℕ) → Bytes l → littleEndian (take w l) < 256 ^ w
+unfolding littleEndian
+spelled-small zero l h = omega arith
+spelled-small (suc w) [] h = one-le-pow (suc w) 256 (omega arith)
+spelled-small (suc w) (b ∷ l) h =
+    let k = spelled-small w l (λ i. h (suc i)) in
+    let f = h 0 in
+    rw (pow-suc 256 w) (omega arith)
+
+-- a number of w bytes
+pub number-small : (w : ℕ) (l : List ℕ) (place : ℕ) → Bytes l → numberAt w l place < 256 ^ w
+unfolding numberAt
+number-small w l place h = spelled-small w (drop place l) (bytes-drop place l h)
 
 -- ---- the sign, at a width
 
