@@ -1,1 +1,5 @@
 pub mod Build
+pub mod TableLaws
+pub mod SectionsLaws
+pub mod CheckLaws
+pub mod WriteLaws

@@ -1,0 +1,157 @@
+-- The builder's checks: the two tests before the buffer's size, what their loops keep, and the verdict by their outcomes.
+use mathlib.Core.Path.{_≡_, refl, sym, ap, _∙_}
+use mathlib.Core.Bool.{Bool, true, false, not, _&&_}
+use mathlib.Core.List.{List, [], _∷_}
+use Prim.Native.Nat.{ℕ, zero, suc, _+_, _-_, _≤_, _<_}
+use native.Mathlib.Nat.{add-zero, zero-add}
+use native.Mathlib.Omega.{arith}
+use borrow.Author.Tests.{lt-ltb, le-ltb, le-leb, lt-leb, eq-eqb, ne-eqb, eqb-true, eqb-false, leb-true, not-true, not-false}
+use lib.Dec.{leb, ltb, eqb}
+use lib.ListN.{length, getD}
+use Rattle.laws.specs.Cases.{decide, both-left, both-right}
+use Rattle.refusals.specs.declared.Verdict.{Verdict}
+use Rattle.refusals.specs.declared.Verdict.the-variants.{Accepted, Refused}
+use Rattle.refusals.specs.Refusals.{refusal, ask}
+use Rattle.refusals.specs.VerdictLaws.{asked, first-passed, next-passed}
+use Rattle.image.specs.Layout.{linePlace}
+use Rattle.builder.specs.declared.Line.{Line}
+use Rattle.builder.specs.declared.Table.{Table}
+use Rattle.builder.specs.Build.{kindsRise, lengthsTotal, imageLength, buildVerdict, tableLinesFrom, tableLines}
+use Rattle.builder.specs.WriteLaws.{Buildable}
+use Rattle.builder.specs.TableLaws.{linesFrom, lines-first, lines-more, lines-end, lengths-more, lengths-end, table-counted}
+
+-- what 18 asks, and what 19 asks
+abbrev pub linesRight : List Line → Bool
+linesRight lines = leb 1 (length lines) && (leb (length lines) 16 && kindsRise 0 lines)
+
+abbrev pub lengthsRight : List Line → (bodies : List ℕ) → Bool
+lengthsRight lines bodies = eqb (lengthsTotal lines) (length bodies) && leb (imageLength lines bodies) 4096
+
+-- ---- 18
+
+-- the kinds up to line i rise to `previous`
+pub record Rising (table : Table) (previous i : ℕ) : Type 0 where
+  pub rest : kindsRise previous (linesFrom table i) ≡ kindsRise 0 (tableLines table)
+
+pub rising-first : (table : Table) → Rising table 0 0
+rising-first table = record { rest = rw (lines-first table) }
+
+module _ (table : Table) (previous i : ℕ) (h : Rising table previous i) where
+  module _ (k : i < table .count) where
+    step : kindsRise previous (linesFrom table i) ≡ ltb previous (getD (table .kinds) i 0) && (leb (getD (table .kinds) i 0) 255 && kindsRise (getD (table .kinds) i 0) (linesFrom table (i + 1)))
+    unfolding kindsRise
+    step = rw (lines-more table i k)
+
+    pub rising-more : previous < getD (table .kinds) i 0 → getD (table .kinds) i 0 ≤ 255 → Rising table (getD (table .kinds) i 0) (i + 1)
+    rising-more l m = record { rest = (rw (lt-ltb previous _ l, le-leb _ 255 m) at (sym step)) ∙ h .rest }
+
+    pub rising-low : getD (table .kinds) i 0 ≤ previous → false ≡ kindsRise 0 (tableLines table)
+    rising-low l = (rw (le-ltb previous _ l) at (sym step)) ∙ h .rest
+
+    pub rising-high : previous < getD (table .kinds) i 0 → 255 < getD (table .kinds) i 0 → false ≡ kindsRise 0 (tableLines table)
+    rising-high l m = (rw (lt-ltb previous _ l, lt-leb _ 255 m) at (sym step)) ∙ h .rest
+
+  pub rising-end : table .count ≤ i → true ≡ kindsRise 0 (tableLines table)
+  unfolding kindsRise
+  rising-end k = (rw (lines-end table i k) at (h .rest))
+
+module _ (table : Table) where
+  pub lines-none : table .count < 1 → false ≡ linesRight (tableLines table)
+  lines-none h = rw (table-counted table, lt-leb 1 (table .count) h)
+
+  pub lines-many : 16 < table .count → false ≡ linesRight (tableLines table)
+  lines-many h = let some : 1 ≤ table .count = omega arith in rw (table-counted table, le-leb 1 (table .count) some, lt-leb (table .count) 16 h)
+
+  pub lines-rise : (r : Bool) → 1 ≤ table .count → table .count ≤ 16 → r ≡ kindsRise 0 (tableLines table) → r ≡ linesRight (tableLines table)
+  lines-rise r h k e = rw (table-counted table, le-leb 1 (table .count) h, le-leb (table .count) 16 k) e
+
+  pub lines-few : (r : Bool) → r ≡ linesRight (tableLines table) → not r ≡ false → table .count ≤ 16
+  lines-few r e t =
+      let right = both-left _ _ (both-right (leb 1 (length (tableLines table))) _ (sym e ∙ not-false r t)) in
+      let few = leb-true (length (tableLines table)) 16 right in
+      let counted = table-counted table in
+      omega arith
+
+-- ---- 19
+
+-- `left` of `whole` is left when the lengths up to line i are taken off
+pub record Adding (table : Table) (whole left i : ℕ) : Type 0 where
+  pub rest : lengthsTotal (tableLines table) + left ≡ whole + lengthsTotal (linesFrom table i)
+
+pub adding-first : (table : Table) (whole : ℕ) → Adding table whole whole 0
+adding-first table whole = record { rest = rw (lines-first table) (omega arith) }
+
+module _ (table : Table) (whole left i : ℕ) (h : Adding table whole left i) where
+  pub adding-more : i < table .count → getD (table .lengths) i 0 ≤ left → Adding table whole (left - getD (table .lengths) i 0) (i + 1)
+  adding-more k l = let t = lengths-more table i k in let r = h .rest in record { rest = omega arith }
+
+  pub adding-short : i < table .count → left < getD (table .lengths) i 0 → false ≡ eqb (lengthsTotal (tableLines table)) whole
+  adding-short k l = let t = lengths-more table i k in let r = h .rest in sym (ne-eqb _ _ (λ (e : lengthsTotal (tableLines table) ≡ whole). omega arith))
+
+  pub adding-end : table .count ≤ i → eqb left 0 ≡ eqb (lengthsTotal (tableLines table)) whole
+  adding-end k =
+      let t = lengths-end table i k in
+      let r = h .rest in
+      decide (eqb left 0)
+      (λ e. let z = eqb-true left 0 e in e ∙ sym (eq-eqb (lengthsTotal (tableLines table)) whole (omega arith)))
+      (λ e. e ∙ sym (ne-eqb (lengthsTotal (tableLines table)) whole (λ f. eqb-false left 0 e (omega arith))))
+
+module _ (table : Table) (bodies : List ℕ) where
+  pub lengths-differ : (r : Bool) → r ≡ eqb (lengthsTotal (tableLines table)) (length bodies) → not r ≡ true → false ≡ lengthsRight (tableLines table) bodies
+  lengths-differ r e t = rw (sym e ∙ not-true r t)
+
+  pub lengths-within : (r : Bool) (n : ℕ) → r ≡ eqb (lengthsTotal (tableLines table)) (length bodies) → not r ≡ false → n ≡ linePlace (table .count) + length bodies
+      → leb n 4096 ≡ lengthsRight (tableLines table) bodies
+  lengths-within r n e t f = rw (sym e ∙ not-false r t, table-counted table, f)
+
+-- ---- the verdict
+
+module _ (table : Table) (bodies : List ℕ) (size : ℕ) (v : Verdict) (lines : Bool) (e : lines ≡ linesRight (tableLines table)) where
+  pub verdict-lines : v ≡ Refused (refusal 18 0) → not lines ≡ true → v ≡ buildVerdict size (tableLines table) bodies
+  unfolding buildVerdict
+  verdict-lines g t = rw (sym e ∙ not-true lines t) g
+
+  module _ (t : not lines ≡ false) (lengths : Bool) (f : lengths ≡ lengthsRight (tableLines table) bodies) where
+    pub verdict-lengths : v ≡ Refused (refusal 19 0) → not lengths ≡ true → v ≡ buildVerdict size (tableLines table) bodies
+    unfolding buildVerdict
+    verdict-lengths g u = rw (sym e ∙ not-false lines t, sym f ∙ not-true lengths u) g
+
+    module _ (u : not lengths ≡ false) (n : ℕ) (is : n ≡ linePlace (table .count) + length bodies) where
+      pub verdict-size : v ≡ Refused (refusal 17 0) → size < n → v ≡ buildVerdict size (tableLines table) bodies
+      unfolding buildVerdict
+      verdict-size g h = rw (sym e ∙ not-false lines t, sym f ∙ not-false lengths u, table-counted table, ← is, lt-leb n size h) g
+
+      pub verdict-accepted : v ≡ Accepted → n ≤ size → v ≡ buildVerdict size (tableLines table) bodies
+      unfolding buildVerdict
+      verdict-accepted g h = rw (sym e ∙ not-false lines t, sym f ∙ not-false lengths u, table-counted table, ← is, le-leb n size h) g
+
+-- ---- what an accepted table keeps to
+
+kind-small : (kinds lengths : List ℕ) (left i previous : ℕ) → kindsRise previous (tableLinesFrom kinds lengths left i) ≡ true
+    → (j : ℕ) → j < left → getD kinds (i + j) 0 ≤ 255
+unfolding kindsRise tableLinesFrom
+kind-small kinds lengths zero i previous e j h = absurd (omega arith)
+kind-small kinds lengths (suc left) i previous e zero h = rw (add-zero i) (leb-true (getD kinds i 0) 255 (both-left _ _ (both-right (ltb previous (getD kinds i 0)) _ e)))
+kind-small kinds lengths (suc left) i previous e (suc j) h =
+    let next : i + suc j ≡ i + 1 + j = omega arith in
+    rw next
+    (kind-small kinds lengths left (i + 1) (getD kinds i 0)
+    (both-right (leb (getD kinds i 0) 255) _ (both-right (ltb previous (getD kinds i 0)) _ e)) j (omega arith))
+
+pub buildable : (table : Table) (bodies : List ℕ) (size : ℕ) (v : Verdict) → v ≡ buildVerdict size (tableLines table) bodies → v ≡ Accepted → Buildable table bodies size
+unfolding buildVerdict
+buildable table bodies size v e f =
+    let passed = sym e ∙ f in
+    let lines = asked (linesRight (tableLines table)) 18 0 (first-passed _ _ passed) in
+    let rest = next-passed (ask (linesRight (tableLines table)) 18 0) _ passed in
+    let lengths = asked (lengthsRight (tableLines table) bodies) 19 0 (first-passed _ _ rest) in
+    let fits = asked _ 17 0 (next-passed (ask (lengthsRight (tableLines table) bodies) 19 0) _ rest) in
+    let rises = both-right (leb (length (tableLines table)) 16) _ (both-right (leb 1 (length (tableLines table))) _ lines) in
+    let counted = table-counted table in
+    record {
+      few = lines-few table true (sym lines) refl;
+      small = λ j h. rw (zero-add j) at (kind-small (table .kinds) (table .lengths) (table .count) 0 0 rises j h);
+      whole = eqb-true _ _ (both-left _ _ lengths);
+      limit = rw counted at (leb-true (imageLength (tableLines table) bodies) 4096 (both-right (eqb (lengthsTotal (tableLines table)) (length bodies)) _ lengths));
+      room = rw counted at (leb-true (imageLength (tableLines table) bodies) size fits);
+    }
