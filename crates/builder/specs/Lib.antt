@@ -3,3 +3,4 @@ pub mod TableLaws
 pub mod SectionsLaws
 pub mod CheckLaws
 pub mod WriteLaws
+pub mod GatherLaws

@@ -15,6 +15,9 @@ mod check;
 // The image's bytes.
 mod write;
 
+// A table of the lines that are lent.
+mod gather;
+
 // A contents line as the builder is given it.
 pub struct Line {
     pub kind: u32,
@@ -45,4 +48,18 @@ pub fn build_table(table: Table, bodies: &[u8], image: &mut [u8]) -> Filled
 {
     let answer = begun(table, bodies, image);
     refusals::settled(answer, image)
+}
+
+// The builder on a lent list of lines, of which no more than 17 are looked at.
+pub fn build(lines: &[Line], bodies: &[u8], image: &mut [u8]) -> Filled
+    ensures { λ r. ⌜ Fills (buildImage (length (now (image .entry))) (now (lines .entry)) (now (bodies .entry))) (now (image .entry)) r (now (image .exit)) ⌝ }
+{
+    let count = gather::few(lines.len());
+    let mut table = gather::empty();
+    let mut i: usize = 0;
+    while i < count {
+        table = gather::put(table, lines[i]);
+        i += 1;
+    }
+    build_table(table, bodies, image)
 }
