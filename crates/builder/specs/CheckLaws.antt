@@ -1,4 +1,4 @@
--- The builder's checks: the two tests before the buffer's size, what their loops keep, and the verdict by their outcomes.
+-- The builder's checks on a table: what their loops keep, the verdict by their outcomes, and what an accepted table keeps to.
 use mathlib.Core.Path.{_≡_, refl, sym, ap, _∙_}
 use mathlib.Core.Bool.{Bool, true, false, not, _&&_}
 use mathlib.Core.List.{List, [], _∷_}
@@ -11,21 +11,14 @@ use lib.ListN.{length, getD}
 use Rattle.laws.specs.Cases.{decide, both-left, both-right}
 use Rattle.refusals.specs.declared.Verdict.{Verdict}
 use Rattle.refusals.specs.declared.Verdict.the-variants.{Accepted, Refused}
-use Rattle.refusals.specs.Refusals.{refusal, ask}
-use Rattle.refusals.specs.VerdictLaws.{asked, first-passed, next-passed}
+use Rattle.refusals.specs.Refusals.{refusal}
 use Rattle.image.specs.Layout.{linePlace}
 use Rattle.builder.specs.declared.Line.{Line}
 use Rattle.builder.specs.declared.Table.{Table}
-use Rattle.builder.specs.Build.{kindsRise, lengthsTotal, imageLength, buildVerdict, tableLinesFrom, tableLines}
+use Rattle.builder.specs.Build.{kindsRise, lengthsTotal, buildVerdict, tableLinesFrom, tableLines}
+use Rattle.builder.specs.BuildLaws.{linesRight, lengthsRight, passed}
 use Rattle.builder.specs.WriteLaws.{Buildable}
 use Rattle.builder.specs.TableLaws.{linesFrom, lines-first, lines-more, lines-end, lengths-more, lengths-end, table-counted}
-
--- what 18 asks, and what 19 asks
-abbrev pub linesRight : List Line → Bool
-linesRight lines = leb 1 (length lines) && (leb (length lines) 16 && kindsRise 0 lines)
-
-abbrev pub lengthsRight : List Line → (bodies : List ℕ) → Bool
-lengthsRight lines bodies = eqb (lengthsTotal lines) (length bodies) && leb (imageLength lines bodies) 4096
 
 -- ---- 18
 
@@ -139,19 +132,13 @@ kind-small kinds lengths (suc left) i previous e (suc j) h =
     (both-right (leb (getD kinds i 0) 255) _ (both-right (ltb previous (getD kinds i 0)) _ e)) j (omega arith))
 
 pub buildable : (table : Table) (bodies : List ℕ) (size : ℕ) (v : Verdict) → v ≡ buildVerdict size (tableLines table) bodies → v ≡ Accepted → Buildable table bodies size
-unfolding buildVerdict
 buildable table bodies size v e f =
-    let passed = sym e ∙ f in
-    let lines = asked (linesRight (tableLines table)) 18 0 (first-passed _ _ passed) in
-    let rest = next-passed (ask (linesRight (tableLines table)) 18 0) _ passed in
-    let lengths = asked (lengthsRight (tableLines table) bodies) 19 0 (first-passed _ _ rest) in
-    let fits = asked _ 17 0 (next-passed (ask (lengthsRight (tableLines table) bodies) 19 0) _ rest) in
-    let rises = both-right (leb (length (tableLines table)) 16) _ (both-right (leb 1 (length (tableLines table))) _ lines) in
+    let p = passed size (tableLines table) bodies (sym e ∙ f) in
     let counted = table-counted table in
     record {
-      few = lines-few table true (sym lines) refl;
-      small = λ j h. rw (zero-add j) at (kind-small (table .kinds) (table .lengths) (table .count) 0 0 rises j h);
-      whole = eqb-true _ _ (both-left _ _ lengths);
-      limit = rw counted at (leb-true (imageLength (tableLines table) bodies) 4096 (both-right (eqb (lengthsTotal (tableLines table)) (length bodies)) _ lengths));
-      room = rw counted at (leb-true (imageLength (tableLines table) bodies) size fits);
+      few = rw counted at (p .few);
+      small = λ j h. rw (zero-add j) at (kind-small (table .kinds) (table .lengths) (table .count) 0 0 (p .rise) j h);
+      whole = p .whole;
+      limit = rw counted at (p .limit);
+      room = rw counted at (p .room);
     }

@@ -26,7 +26,7 @@ use Rattle.image.specs.Sections.{Section, contentsLine, contentsFrom, bodiesOf,
 use Rattle.builder.specs.declared.Line.{Line}
 use Rattle.builder.specs.declared.Table.{Table}
 use Rattle.builder.specs.Build.{sectionsOf, lengthsTotal, buildVerdict, buildImage, tableLines}
-use Rattle.builder.specs.SectionsLaws.{sections-counted, bodies-whole}
+use Rattle.builder.specs.BuildLaws.{sections-counted, bodies-whole}
 use Rattle.builder.specs.TableLaws.{linesFrom, lineAt, lines-first, lines-more, lines-end, lengths-more, table-counted}
 
 -- what the checks leave to be built on, for a buffer of `size` bytes

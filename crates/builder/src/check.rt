@@ -5,7 +5,7 @@ ghost use lib.Dec.{leb, eqb};
 ghost use lib.ListN.{length};
 ghost use Rattle.refusals.specs.Refusals.{refusal};
 ghost use Rattle.builder.specs.Build.{kindsRise, lengthsTotal, buildVerdict, tableLines};
-ghost use Rattle.builder.specs.CheckLaws.{linesRight, lengthsRight};
+ghost use Rattle.builder.specs.BuildLaws.{linesRight, lengthsRight};
 use crate::Table;
 use crate::place;
 use refusals::Refusal;
