@@ -1,9 +1,9 @@
 -- Lines and the sections that they cut the bodies into; what an accepted list of lines keeps to.
-use mathlib.Core.Path.{_≡_, refl, sym, ap, _∙_}
+use mathlib.Core.Path.{_≡_, refl, ap}
 use mathlib.Core.Bool.{Bool, true, _&&_}
-use mathlib.Core.List.{List, [], _∷_, _++_}
+use mathlib.Core.List.{List, [], _∷_}
 use mathlib.Core.Option.{some}
-use Prim.Native.Nat.{ℕ, zero, suc, _+_, _≤_, _<_}
+use Prim.Native.Nat.{ℕ, zero, suc, _≤_, _<_}
 use native.Mathlib.Omega.{arith}
 use borrow.Author.Tests.{leb-true, ltb-true, eqb-true, le-leb, lt-ltb, eq-eqb, ne-eqb}
 use lib.Dec.{leb, ltb, eqb}
@@ -51,6 +51,18 @@ line-rises previous (l ∷ lines) (suc i) e h =
     let above = line-rises (l .kind) lines i (both-right (leb (l .kind) 255) _ (both-right (ltb previous (l .kind)) _ e)) (omega arith) in
     let first = ltb-true previous (l .kind) (both-left _ _ e) in
     omega arith
+
+pub line-small : (previous : ℕ) (lines : List Line) (i : ℕ) → kindsRise previous lines ≡ true → getD lines i noLine .kind ≤ 255
+unfolding kindsRise
+line-small previous [] i e = omega arith
+line-small previous (l ∷ lines) zero e = leb-true (l .kind) 255 (both-left _ _ (both-right (ltb previous (l .kind)) _ e))
+line-small previous (l ∷ lines) (suc i) e = line-small (l .kind) lines i (both-right (leb (l .kind) 255) _ (both-right (ltb previous (l .kind)) _ e))
+
+pub line-short : (lines : List Line) (i : ℕ) → getD lines i noLine .length ≤ lengthsTotal lines
+unfolding lengthsTotal
+line-short [] i = omega arith
+line-short (l ∷ lines) zero = omega arith
+line-short (l ∷ lines) (suc i) = omega (arith, line-short lines i)
 
 -- among the sections a line's kind has the body that the line is given
 pub body-given : (previous : ℕ) (lines : List Line) (bodies : List ℕ) (i : ℕ) → kindsRise previous lines ≡ true → i < length lines

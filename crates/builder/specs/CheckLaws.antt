@@ -1,24 +1,21 @@
 -- The builder's checks on a table: what their loops keep, the verdict by their outcomes, and what an accepted table keeps to.
-use mathlib.Core.Path.{_≡_, refl, sym, ap, _∙_}
+use mathlib.Core.Path.{_≡_, sym, _∙_}
 use mathlib.Core.Bool.{Bool, true, false, not, _&&_}
-use mathlib.Core.List.{List, [], _∷_}
-use Prim.Native.Nat.{ℕ, zero, suc, _+_, _-_, _≤_, _<_}
-use native.Mathlib.Nat.{add-zero, zero-add}
+use mathlib.Core.List.{List}
+use Prim.Native.Nat.{ℕ, _+_, _-_, _≤_, _<_}
 use native.Mathlib.Omega.{arith}
 use borrow.Author.Tests.{lt-ltb, le-ltb, le-leb, lt-leb, eq-eqb, ne-eqb, eqb-true, eqb-false, leb-true, not-true, not-false}
 use lib.Dec.{leb, ltb, eqb}
-use lib.ListN.{length, getD}
+use lib.ListN.{length}
 use Rattle.laws.specs.Cases.{decide, both-left, both-right}
 use Rattle.refusals.specs.declared.Verdict.{Verdict}
 use Rattle.refusals.specs.declared.Verdict.the-variants.{Accepted, Refused}
 use Rattle.refusals.specs.Refusals.{refusal}
 use Rattle.image.specs.Layout.{linePlace}
-use Rattle.builder.specs.declared.Line.{Line}
 use Rattle.builder.specs.declared.Table.{Table}
-use Rattle.builder.specs.Build.{kindsRise, lengthsTotal, buildVerdict, tableLinesFrom, tableLines}
-use Rattle.builder.specs.BuildLaws.{linesRight, lengthsRight, passed}
-use Rattle.builder.specs.WriteLaws.{Buildable}
-use Rattle.builder.specs.TableLaws.{linesFrom, lines-first, lines-more, lines-end, lengths-more, lengths-end, table-counted}
+use Rattle.builder.specs.Build.{kindsRise, lengthsTotal, buildVerdict, tableLines}
+use Rattle.builder.specs.BuildLaws.{line-small, linesRight, lengthsRight, passed}
+use Rattle.builder.specs.TableLaws.{kindIn, lengthIn, linesFrom, lines-first, lines-more, lines-end, lengths-more, lengths-end, table-counted, table-kind}
 
 -- ---- 18
 
@@ -31,17 +28,17 @@ rising-first table = record { rest = rw (lines-first table) }
 
 module _ (table : Table) (previous i : ℕ) (h : Rising table previous i) where
   module _ (k : i < table .count) where
-    step : kindsRise previous (linesFrom table i) ≡ ltb previous (getD (table .kinds) i 0) && (leb (getD (table .kinds) i 0) 255 && kindsRise (getD (table .kinds) i 0) (linesFrom table (i + 1)))
+    step : kindsRise previous (linesFrom table i) ≡ ltb previous (kindIn table i) && (leb (kindIn table i) 255 && kindsRise (kindIn table i) (linesFrom table (i + 1)))
     unfolding kindsRise
     step = rw (lines-more table i k)
 
-    pub rising-more : previous < getD (table .kinds) i 0 → getD (table .kinds) i 0 ≤ 255 → Rising table (getD (table .kinds) i 0) (i + 1)
+    pub rising-more : previous < kindIn table i → kindIn table i ≤ 255 → Rising table (kindIn table i) (i + 1)
     rising-more l m = record { rest = (rw (lt-ltb previous _ l, le-leb _ 255 m) at (sym step)) ∙ h .rest }
 
-    pub rising-low : getD (table .kinds) i 0 ≤ previous → false ≡ kindsRise 0 (tableLines table)
+    pub rising-low : kindIn table i ≤ previous → false ≡ kindsRise 0 (tableLines table)
     rising-low l = (rw (le-ltb previous _ l) at (sym step)) ∙ h .rest
 
-    pub rising-high : previous < getD (table .kinds) i 0 → 255 < getD (table .kinds) i 0 → false ≡ kindsRise 0 (tableLines table)
+    pub rising-high : previous < kindIn table i → 255 < kindIn table i → false ≡ kindsRise 0 (tableLines table)
     rising-high l m = (rw (lt-ltb previous _ l, lt-leb _ 255 m) at (sym step)) ∙ h .rest
 
   pub rising-end : table .count ≤ i → true ≡ kindsRise 0 (tableLines table)
@@ -75,10 +72,10 @@ pub adding-first : (table : Table) (whole : ℕ) → Adding table whole whole 0
 adding-first table whole = record { rest = rw (lines-first table) (omega arith) }
 
 module _ (table : Table) (whole left i : ℕ) (h : Adding table whole left i) where
-  pub adding-more : i < table .count → getD (table .lengths) i 0 ≤ left → Adding table whole (left - getD (table .lengths) i 0) (i + 1)
+  pub adding-more : i < table .count → lengthIn table i ≤ left → Adding table whole (left - lengthIn table i) (i + 1)
   adding-more k l = let t = lengths-more table i k in let r = h .rest in record { rest = omega arith }
 
-  pub adding-short : i < table .count → left < getD (table .lengths) i 0 → false ≡ eqb (lengthsTotal (tableLines table)) whole
+  pub adding-short : i < table .count → left < lengthIn table i → false ≡ eqb (lengthsTotal (tableLines table)) whole
   adding-short k l = let t = lengths-more table i k in let r = h .rest in sym (ne-eqb _ _ (λ (e : lengthsTotal (tableLines table) ≡ whole). omega arith))
 
   pub adding-end : table .count ≤ i → eqb left 0 ≡ eqb (lengthsTotal (tableLines table)) whole
@@ -120,16 +117,13 @@ module _ (table : Table) (bodies : List ℕ) (size : ℕ) (v : Verdict) (lines :
 
 -- ---- what an accepted table keeps to
 
-kind-small : (kinds lengths : List ℕ) (left i previous : ℕ) → kindsRise previous (tableLinesFrom kinds lengths left i) ≡ true
-    → (j : ℕ) → j < left → getD kinds (i + j) 0 ≤ 255
-unfolding kindsRise tableLinesFrom
-kind-small kinds lengths zero i previous e j h = absurd (omega arith)
-kind-small kinds lengths (suc left) i previous e zero h = rw (add-zero i) (leb-true (getD kinds i 0) 255 (both-left _ _ (both-right (ltb previous (getD kinds i 0)) _ e)))
-kind-small kinds lengths (suc left) i previous e (suc j) h =
-    let next : i + suc j ≡ i + 1 + j = omega arith in
-    rw next
-    (kind-small kinds lengths left (i + 1) (getD kinds i 0)
-    (both-right (leb (getD kinds i 0) 255) _ (both-right (ltb previous (getD kinds i 0)) _ e)) j (omega arith))
+-- for a buffer of `size` bytes
+pub record Buildable (table : Table) (bodies : List ℕ) (size : ℕ) : Type 0 where
+  pub few : table .count ≤ 16
+  pub small : (i : ℕ) → i < table .count → kindIn table i ≤ 255
+  pub whole : lengthsTotal (tableLines table) ≡ length bodies
+  pub limit : linePlace (table .count) + length bodies ≤ 4096
+  pub room : linePlace (table .count) + length bodies ≤ size
 
 pub buildable : (table : Table) (bodies : List ℕ) (size : ℕ) (v : Verdict) → v ≡ buildVerdict size (tableLines table) bodies → v ≡ Accepted → Buildable table bodies size
 buildable table bodies size v e f =
@@ -137,7 +131,7 @@ buildable table bodies size v e f =
     let counted = table-counted table in
     record {
       few = rw counted at (p .few);
-      small = λ j h. rw (zero-add j) at (kind-small (table .kinds) (table .lengths) (table .count) 0 0 (p .rise) j h);
+      small = λ i h. rw (table-kind table i h) at (line-small 0 (tableLines table) i (p .rise));
       whole = p .whole;
       limit = rw counted at (p .limit);
       room = rw counted at (p .room);

@@ -1,10 +1,10 @@
 -- A table gathered from a lent list of lines, line by line.
-use mathlib.Core.Path.{_≡_, refl, sym, ap, ap₂, subst, _∙_}
+use mathlib.Core.Path.{_≡_, refl, ap, subst}
 use mathlib.Core.List.{List, [], _∷_, _++_}
 use Prim.Native.Nat.{ℕ, zero, suc, _+_, _≤_, _<_, min}
 use native.Mathlib.Numerals.{add-one}
 use native.Mathlib.Omega.{arith}
-use lib.ListN.{length, take, getD, set, length-append, length-take}
+use lib.ListN.{length, take, set, length-append, length-take}
 use lib.Seq.{getD-set-same, getD-set-other, take-all}
 use borrow.Author.Tests.{le-leb, lt-leb}
 use Rattle.laws.specs.Cases.{split}

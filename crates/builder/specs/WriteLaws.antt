@@ -1,18 +1,14 @@
 -- The image's bytes as they are written: what stands before a place is the image so far.
-use mathlib.Core.Path.{_≡_, refl, sym, ap, ap₂, _∙_}
-use mathlib.Core.Bool.{Bool, true, _&&_}
+use mathlib.Core.Path.{_≡_, refl, sym, ap, _∙_}
 use mathlib.Core.List.{List, [], _∷_, _++_, append-assoc, append-nil}
-use Prim.Native.Nat.{ℕ, suc, _+_, _*_, _%_, _≤_, _<_}
+use Prim.Native.Nat.{ℕ, suc, _+_, _%_, _≤_, _<_}
 use native.Mathlib.Nat.{add-zero, add-suc, add-assoc}
 use native.Mathlib.Numerals.{add-one}
 use native.Mathlib.Omega.{arith}
-use borrow.Author.Tests.{leb-true, ltb-true, eqb-true}
 use mir.Syntax.{w8, w16, w64}
 use mir.Val.{Fits}
-use lib.Dec.{leb, ltb, eqb}
-use lib.ListN.{length, take, drop, getD, set, length-set, length-append, length-take, length-drop, take-append-drop, drop-of-length-le}
+use lib.ListN.{length, take, drop, getD, set, length-set, length-append, length-drop, drop-of-length-le}
 use lib.Seq.{sets, sets-eq, take-at, length-take-le, take-suc-set, drop-cons, drop-drop}
-use Rattle.laws.specs.Cases.{both-left, both-right}
 use Rattle.laws.specs.Sums.{total}
 use Rattle.refusals.specs.declared.Refusal.{Refusal}
 use Rattle.refusals.specs.declared.Verdict.{Verdict}
@@ -22,27 +18,12 @@ use Rattle.refusals.specs.declared.Filled.the-variants.{Length, Refused as NotF
 use Rattle.refusals.specs.Refusals.{result}
 use Rattle.refusals.specs.RefusalsLaws.{Begins}
 use Rattle.image.specs.Layout.{linePlace}
-use Rattle.image.specs.Sections.{Section, contentsLine, contentsFrom, bodiesOf, imageOf}
-use Rattle.builder.specs.declared.Line.{Line}
+use Rattle.image.specs.Sections.{contentsLine, contentsFrom, imageOf}
 use Rattle.builder.specs.declared.Table.{Table}
 use Rattle.builder.specs.Build.{sectionsOf, lengthsTotal, buildVerdict, buildImage, tableLines}
 use Rattle.builder.specs.BuildLaws.{sections-counted, bodies-whole}
-use Rattle.builder.specs.TableLaws.{linesFrom, lineAt, lines-first, lines-more, lines-end, lengths-more, table-counted}
-
--- what the checks leave to be built on, for a buffer of `size` bytes
-pub record Buildable (table : Table) (bodies : List ℕ) (size : ℕ) : Type 0 where
-  pub few : table .count ≤ 16
-  pub small : (i : ℕ) → i < table .count → getD (table .kinds) i 0 ≤ 255
-  pub whole : lengthsTotal (tableLines table) ≡ length bodies
-  pub limit : linePlace (table .count) + length bodies ≤ 4096
-  pub room : linePlace (table .count) + length bodies ≤ size
-
-pub kind-fits : (table : Table) (bodies : List ℕ) (size i : ℕ) → Buildable table bodies size → i < table .count → Fits w8 (getD (table .kinds) i 0)
-kind-fits table bodies size i b h = record { fits = omega (arith, b .small i h) }
-
--- in another buffer of that size
-pub buildable-kept : (table : Table) (bodies : List ℕ) (size size′ : ℕ) → size′ ≡ size → Buildable table bodies size → Buildable table bodies size′
-buildable-kept table bodies size size′ e b = rw e b
+use Rattle.builder.specs.CheckLaws.{Buildable}
+use Rattle.builder.specs.TableLaws.{kindIn, lengthIn, linesFrom, lines-first, lines-more, lines-end, lengths-more, table-counted}
 
 -- ---- stores in a row
 
@@ -91,17 +72,20 @@ module _ (place : ℕ) (block before : List ℕ) (i : ℕ) (image : List ℕ) (h
 
 -- ---- the contents lines
 
+pub kind-fits : (table : Table) (bodies : List ℕ) (size i : ℕ) → Buildable table bodies size → i < table .count → Fits w8 (kindIn table i)
+kind-fits table bodies size i b h = record { fits = omega (arith, b .small i h) }
+
 -- the line of the next body, which is `part`, and the lines after it
-contents-more : (table : Table) (bodies part : List ℕ) (offset start i sum : ℕ) → i < table .count → start + getD (table .lengths) i 0 ≤ length bodies
-    → part ≡ take (getD (table .lengths) i 0) (drop start bodies) → sum ≡ total part % 65536
+contents-more : (table : Table) (bodies part : List ℕ) (offset start i sum : ℕ) → i < table .count → start + lengthIn table i ≤ length bodies
+    → part ≡ take (lengthIn table i) (drop start bodies) → sum ≡ total part % 65536
     → contentsFrom offset (sectionsOf (linesFrom table i) (drop start bodies))
-    ≡ contentsLine (getD (table .kinds) i 0) offset (getD (table .lengths) i 0) sum
-    ++ contentsFrom (offset + getD (table .lengths) i 0) (sectionsOf (linesFrom table (i + 1)) (drop (start + getD (table .lengths) i 0) bodies))
+    ≡ contentsLine (kindIn table i) offset (lengthIn table i) sum
+    ++ contentsFrom (offset + lengthIn table i) (sectionsOf (linesFrom table (i + 1)) (drop (start + lengthIn table i) bodies))
 unfolding contentsFrom sectionsOf
 contents-more table bodies part offset start i sum h within e f =
-    let left : getD (table .lengths) i 0 ≤ length (drop start bodies) = omega (arith, length-drop start bodies) in
-    let long = length-take-le (getD (table .lengths) i 0) (drop start bodies) left in
-    rw (lines-more table i h, f, e, long, drop-drop (getD (table .lengths) i 0) start bodies)
+    let left : lengthIn table i ≤ length (drop start bodies) = omega (arith, length-drop start bodies) in
+    let long = length-take-le (lengthIn table i) (drop start bodies) left in
+    rw (lines-more table i h, f, e, long, drop-drop (lengthIn table i) start bodies)
 
 -- i lines are written, and the bodies of those left begin at `start`
 pub record Writing (table : Table) (bodies before : List ℕ) (start i : ℕ) (image : List ℕ) : Type 0 where
@@ -120,25 +104,25 @@ writing-first table bodies image size b = record {
 }
 
 module _ (table : Table) (bodies before : List ℕ) (start i : ℕ) (image : List ℕ) (w : Writing table bodies before start i image) where
-  body-within : i < table .count → start + getD (table .lengths) i 0 ≤ length bodies
+  body-within : i < table .count → start + lengthIn table i ≤ length bodies
   body-within h = omega (arith, lengths-more table i h, w .left)
 
-  pub length-fits : (size : ℕ) → Buildable table bodies size → i < table .count → Fits w16 (getD (table .lengths) i 0)
+  pub length-fits : (size : ℕ) → Buildable table bodies size → i < table .count → Fits w16 (lengthIn table i)
   length-fits size b h = record { fits = omega (arith, body-within h, b .limit) }
 
-  pub start-fits : (size : ℕ) → Buildable table bodies size → i < table .count → Fits w64 (start + getD (table .lengths) i 0)
+  pub start-fits : (size : ℕ) → Buildable table bodies size → i < table .count → Fits w64 (start + lengthIn table i)
   start-fits size b h = record { fits = omega (arith, body-within h, b .limit) }
 
-  pub writing-more : (part image′ : List ℕ) (sum place first : ℕ) → i < table .count → part ≡ take (getD (table .lengths) i 0) (drop start bodies) → sum ≡ total part % 65536
+  pub writing-more : (part image′ : List ℕ) (sum place first : ℕ) → i < table .count → part ≡ take (lengthIn table i) (drop start bodies) → sum ≡ total part % 65536
       → place ≡ linePlace i → first ≡ linePlace (table .count)
-      → take (place + 8) image′ ≡ take place image ++ contentsLine (getD (table .kinds) i 0) (first + start) (getD (table .lengths) i 0) sum
-      → length image′ ≡ length image → Writing table bodies before (start + getD (table .lengths) i 0) (i + 1) image′
+      → take (place + 8) image′ ≡ take place image ++ contentsLine (kindIn table i) (first + start) (lengthIn table i) sum
+      → length image′ ≡ length image → Writing table bodies before (start + lengthIn table i) (i + 1) image′
   writing-more part image′ sum place first h e f is is-first put kept = record {
     upto = omega arith;
     rest =
         let next : linePlace (i + 1) ≡ linePlace i + 8 = omega arith in
         let more = contents-more table bodies part (linePlace (table .count) + start) start i sum h (body-within h) e f in
-        rw (next, rw (is, is-first) at put, ← add-assoc (linePlace (table .count)) start (getD (table .lengths) i 0)) (append-assoc (take (linePlace i) image) _ _ ∙ (rw more at (w .rest)));
+        rw (next, rw (is, is-first) at put, ← add-assoc (linePlace (table .count)) start (lengthIn table i)) (append-assoc (take (linePlace i) image) _ _ ∙ (rw more at (w .rest)));
     left = omega (arith, lengths-more table i h, w .left);
     long = kept ∙ w .long;
   }

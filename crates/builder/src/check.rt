@@ -1,7 +1,6 @@
 ghost use mathlib.Core.Path.{_≡_};
-ghost use mathlib.Core.Bool.{_&&_};
 ghost use Prim.Native.Nat.{_≤_};
-ghost use lib.Dec.{leb, eqb};
+ghost use lib.Dec.{eqb};
 ghost use lib.ListN.{length};
 ghost use Rattle.refusals.specs.Refusals.{refusal};
 ghost use Rattle.builder.specs.Build.{kindsRise, lengthsTotal, buildVerdict, tableLines};

@@ -7,7 +7,7 @@ ghost use Rattle.refusals.specs.RefusalsLaws.{Begins};
 ghost use Rattle.image.specs.Layout.{linePlace};
 ghost use Rattle.image.specs.Sections.{contentsLine, contentsFrom, imageOf};
 ghost use Rattle.builder.specs.Build.{sectionsOf, tableLines};
-ghost use Rattle.builder.specs.WriteLaws.{Buildable};
+ghost use Rattle.builder.specs.CheckLaws.{Buildable};
 use crate::Table;
 use crate::place;
 use numbers::slices;
