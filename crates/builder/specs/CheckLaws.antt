@@ -38,8 +38,13 @@ module _ (table : Table) (previous i : ℕ) (h : Rising table previous i) where
     pub rising-low : kindIn table i ≤ previous → false ≡ kindsRise 0 (tableLines table)
     rising-low l = (rw (le-ltb previous _ l) at (sym step)) ∙ h .rest
 
-    pub rising-high : previous < kindIn table i → 255 < kindIn table i → false ≡ kindsRise 0 (tableLines table)
-    rising-high l m = (rw (lt-ltb previous _ l, lt-leb _ 255 m) at (sym step)) ∙ h .rest
+    -- above 255, or above any greater bound
+    pub rising-high : (most : ℕ) → 255 ≤ most → most < kindIn table i → false ≡ kindsRise 0 (tableLines table)
+    rising-high most g m =
+        let above : 255 < kindIn table i = omega arith in
+        decide (ltb previous (kindIn table i))
+        (λ l. (rw (l, lt-leb _ 255 above) at (sym step)) ∙ h .rest)
+        (λ l. (rw l at (sym step)) ∙ h .rest)
 
   pub rising-end : table .count ≤ i → true ≡ kindsRise 0 (tableLines table)
   unfolding kindsRise
