@@ -75,17 +75,20 @@ module _ (place : ℕ) (block before : List ℕ) (i : ℕ) (image : List ℕ) (h
 pub kind-fits : (table : Table) (bodies : List ℕ) (size i : ℕ) → Buildable table bodies size → i < table .count → Fits w8 (kindIn table i)
 kind-fits table bodies size i b h = record { fits = omega (arith, b .small i h) }
 
--- the line of the next body, which is `part`, and the lines after it
-contents-more : (table : Table) (bodies part : List ℕ) (offset start i sum : ℕ) → i < table .count → start + lengthIn table i ≤ length bodies
-    → part ≡ take (lengthIn table i) (drop start bodies) → sum ≡ total part % 65536
+pub sum-of-part : (body part : List ℕ) (sum : ℕ) → part ≡ body → sum ≡ total part % 65536 → sum ≡ total body % 65536
+sum-of-part body part sum e f = rw e at f
+
+-- the line of the next body, and the lines after it
+contents-more : (table : Table) (bodies : List ℕ) (offset start i sum : ℕ) → i < table .count → start + lengthIn table i ≤ length bodies
+    → sum ≡ total (take (lengthIn table i) (drop start bodies)) % 65536
     → contentsFrom offset (sectionsOf (linesFrom table i) (drop start bodies))
     ≡ contentsLine (kindIn table i) offset (lengthIn table i) sum
     ++ contentsFrom (offset + lengthIn table i) (sectionsOf (linesFrom table (i + 1)) (drop (start + lengthIn table i) bodies))
 unfolding contentsFrom sectionsOf
-contents-more table bodies part offset start i sum h within e f =
+contents-more table bodies offset start i sum h within e =
     let left : lengthIn table i ≤ length (drop start bodies) = omega (arith, length-drop start bodies) in
     let long = length-take-le (lengthIn table i) (drop start bodies) left in
-    rw (lines-more table i h, f, e, long, drop-drop (lengthIn table i) start bodies)
+    rw (lines-more table i h, e, long, drop-drop (lengthIn table i) start bodies)
 
 -- i lines are written, and the bodies of those left begin at `start`
 pub record Writing (table : Table) (bodies before : List ℕ) (start i : ℕ) (image : List ℕ) : Type 0 where
@@ -113,15 +116,15 @@ module _ (table : Table) (bodies before : List ℕ) (start i : ℕ) (image : Lis
   pub start-fits : (size : ℕ) → Buildable table bodies size → i < table .count → Fits w64 (start + lengthIn table i)
   start-fits size b h = record { fits = omega (arith, body-within h, b .limit) }
 
-  pub writing-more : (part image′ : List ℕ) (sum place first : ℕ) → i < table .count → part ≡ take (lengthIn table i) (drop start bodies) → sum ≡ total part % 65536
+  pub writing-more : (image′ : List ℕ) (sum place first : ℕ) → i < table .count → sum ≡ total (take (lengthIn table i) (drop start bodies)) % 65536
       → place ≡ linePlace i → first ≡ linePlace (table .count)
       → take (place + 8) image′ ≡ take place image ++ contentsLine (kindIn table i) (first + start) (lengthIn table i) sum
       → length image′ ≡ length image → Writing table bodies before (start + lengthIn table i) (i + 1) image′
-  writing-more part image′ sum place first h e f is is-first put kept = record {
+  writing-more image′ sum place first h e is is-first put kept = record {
     upto = omega arith;
     rest =
         let next : linePlace (i + 1) ≡ linePlace i + 8 = omega arith in
-        let more = contents-more table bodies part (linePlace (table .count) + start) start i sum h (body-within h) e f in
+        let more = contents-more table bodies (linePlace (table .count) + start) start i sum h (body-within h) e in
         rw (next, rw (is, is-first) at put, ← add-assoc (linePlace (table .count)) start (lengthIn table i)) (append-assoc (take (linePlace i) image) _ _ ∙ (rw more at (w .rest)));
     left = omega (arith, lengths-more table i h, w .left);
     long = kept ∙ w .long;

@@ -1,7 +1,8 @@
 ghost use mathlib.Core.Path.{_≡_};
 ghost use mathlib.Core.List.{_++_, [], _∷_};
-ghost use Prim.Native.Nat.{_+_, _≤_};
-ghost use lib.ListN.{length, take};
+ghost use Prim.Native.Nat.{_+_, _%_, _≤_};
+ghost use lib.ListN.{length, take, drop};
+ghost use Rattle.laws.specs.Sums.{total};
 ghost use Rattle.refusals.specs.Refusals.{result};
 ghost use Rattle.refusals.specs.RefusalsLaws.{Begins};
 ghost use Rattle.image.specs.Layout.{linePlace};
@@ -28,6 +29,13 @@ fn line(image: &mut [u8], place: usize, kind: u8, offset: u16, size: u16, sum: u
     image[place + 7] = (sum / 256) as u8;
 }
 
+// The sum of the body that begins at `start`.
+fn body_sum(bodies: &[u8], start: usize, length: usize) -> u16
+    ensures { λ r. ⌜ r ≡ total (take length (drop start (now (bodies .entry)))) % 65536 ⌝ }
+{
+    slices::byte_sum(slices::part(bodies, start, length))
+}
+
 // The contents lines, after the image's first two bytes.
 fn contents(table: Table, bodies: &[u8], image: &mut [u8])
     requires { ⌜ Buildable table (now bodies) (length (now image)) ⌝ }
@@ -38,7 +46,7 @@ fn contents(table: Table, bodies: &[u8], image: &mut [u8])
     let mut i: usize = 0;
     while i < table.count {
         let length = table.lengths[i];
-        let sum = slices::byte_sum(slices::part(bodies, start, length));
+        let sum = body_sum(bodies, start, length);
         line(
             image,
             place::line_place(i),

@@ -24,11 +24,8 @@ mul-length c = search laws
 element-copy-out-length : tie.Need-element-copy-out-length Inv-loop μ-loop
 element-copy-out-length c = search laws
 
-part-requires : tie.Need-part-requires Inv-loop μ-loop
-part-requires c κs = search laws
-
-byte-sum-requires : tie.Need-byte-sum-requires Inv-loop μ-loop
-byte-sum-requires c κs = search laws
+body-sum-requires : tie.Need-body-sum-requires Inv-loop μ-loop
+body-sum-requires c κs = search laws
 
 line-place-requires-2 : tie.Need-line-place-requires-2 Inv-loop μ-loop
 line-place-requires-2 c κs = search laws
@@ -64,7 +61,7 @@ loop-less : tie.Need-loop-less Inv-loop μ-loop
 loop-less c = search laws
 
 loop-again : tie.Need-loop-again Inv-loop μ-loop
-loop-again c = search writing-more
+loop-again c = search laws
 
 same-length : tie.Need-same-length Inv-loop μ-loop
 same-length c = search laws
@@ -82,8 +79,7 @@ contents-spec =
     loop-holds
     mul-length
     element-copy-out-length
-    part-requires
-    byte-sum-requires
+    body-sum-requires
     line-place-requires-2
     mul-line
     element-copy-out-line
