@@ -1,7 +1,6 @@
 ghost use mathlib.Core.Path.{_≡_};
 ghost use mathlib.Core.List.{List, [], _∷_, _++_};
 ghost use Prim.Native.Nat.{min};
-ghost use Rattle.builder.specs.declared.Line.{Line as Lineᴸ};
 ghost use Rattle.builder.specs.GatherLaws.{Gathered};
 use crate::Line;
 use crate::Table;
@@ -25,7 +24,7 @@ pub fn empty() -> Table
 
 // One line more. Of more than 16 it is kept only that there are too many.
 pub fn put(table: Table, line: Line) -> Table
-    ensures { λ r. ⌜ ((lines : List Lineᴸ) → Gathered table lines → Gathered r (lines ++ line ∷ [])) ⌝ }
+    ensures { λ r. ⌜ ((lines : List Line) → Gathered table lines → Gathered r (lines ++ line ∷ [])) ⌝ }
 {
     let mut more = table;
     let count = more.count;
