@@ -5,6 +5,7 @@ use Prim.Native.Nat.{ℕ, zero, suc, _+_, _-_, _≤_, _<_}
 use native.Mathlib.Nat.{sub-zero, add-zero, zero-add}
 use native.Mathlib.Omega.{arith}
 use lib.ListN.{length, getD}
+use Rattle.image.specs.LayoutLaws.{one-left, none-left}
 use Rattle.builder.specs.declared.Line.{Line}
 use Rattle.builder.specs.declared.Table.{Table}
 use Rattle.builder.specs.Lines.{noLine}
@@ -27,11 +28,11 @@ lines-first table = rw (sub-zero (table .count))
 module _ (table : Table) (i : ℕ) where
   pub lines-more : i < table .count → linesFrom table i ≡ record { kind = kindIn table i; length = lengthIn table i } ∷ linesFrom table (i + 1)
   unfolding tableLinesFrom
-  lines-more h = let e : table .count - i ≡ suc (table .count - (i + 1)) = omega arith in rw e
+  lines-more h = rw (one-left (table .count) i h)
 
   pub lines-end : table .count ≤ i → linesFrom table i ≡ []
   unfolding tableLinesFrom
-  lines-end h = let e : table .count - i ≡ 0 = omega arith in rw e
+  lines-end h = rw (none-left (table .count) i h)
 
   -- and of their lengths
   pub lengths-more : i < table .count → lengthsTotal (linesFrom table i) ≡ lengthIn table i + lengthsTotal (linesFrom table (i + 1))

@@ -17,10 +17,15 @@ use Rattle.image.specs.LineLaws.{line-spelled}
 use Rattle.image.specs.LayoutLaws.{line-passed, lines-ended, sum-passed, layout-passed}
 use Rattle.image.specs.RoundTrip.{Holds}
 
-pub sections-count : (image : List ℕ) (left i : ℕ) → length (sectionsFrom image left i) ≡ left
+count-from : (image : List ℕ) (left i : ℕ) → length (sectionsFrom image left i) ≡ left
 unfolding sectionsFrom
-sections-count image zero i = refl
-sections-count image (suc left) i = ap suc (sections-count image left (i + 1))
+count-from image zero i = refl
+count-from image (suc left) i = ap suc (count-from image left (i + 1))
+
+-- a section for each line
+pub sections-count : (image : List ℕ) → length (sections image) ≡ lineCount image
+unfolding sections
+sections-count image = count-from image (lineCount image) 0
 
 -- ---- the image holds its sections
 
@@ -34,7 +39,8 @@ rising-back image (suc left) i previous offset b e =
     (p .right .rises, omega arith, rising-back image left (i + 1) (kindAt image i) (offset + lengthAt image i) b (p .others))
 
 -- a line before the others, whose body stands before theirs
-module _ (image : List ℕ) (i offset : ℕ) (ss : List Section) (h : Holds image (i + 1) (offset + lengthAt image i) ss) (starts : offsetAt image i ≡ offset) where
+module _ (image : List ℕ) (i offset : ℕ) (ss : List Section) (h : Holds image (i + 1) (offset + lengthAt image i) ss)
+    (starts : offsetAt image i ≡ offset) where
   body-long : length (bodyAt image i) ≡ lengthAt image i
   body-long = rw starts (length-take-le (lengthAt image i) (drop offset image) (omega (arith, length-drop offset image, h .within)))
 
@@ -74,14 +80,10 @@ module _ (image : List ℕ) (b : Bytes image) (good : layoutVerdict image ≡ Ac
       let g = layout-passed image good in
       holds-back image (lineCount image) 0 0 (linePlace (lineCount image)) b (rw (zero-add (lineCount image)) (g .counted .room)) (g .lines) (g .sums)
 
-  count-of : length (sections image) ≡ lineCount image
-  unfolding sections
-  count-of = sections-count image (lineCount image) 0
-
   pub sections-fit : Fit (sections image)
   sections-fit =
       let g = layout-passed image good in
-      let count = count-of in
+      let count = sections-count image in
       let long = ap length (held .bodies) in
       record {
         some = omega (arith, g .counted .some);
@@ -99,4 +101,4 @@ module _ (image : List ℕ) (b : Bytes image) (good : layoutVerdict image ≡ Ac
       let g = layout-passed image good in
       sym
       (drop-two image 0 (g .started .enough)
-      ∙ rw (← byte-at image 0, g .started .marked, ← byte-at image 1, held .contents, zero-add (length (sections image)), count-of, held .bodies))
+      ∙ rw (← byte-at image 0, g .started .marked, ← byte-at image 1, held .contents, zero-add (length (sections image)), sections-count image, held .bodies))

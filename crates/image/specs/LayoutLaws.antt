@@ -1,5 +1,5 @@
 -- What each check of the layout says: from the facts to its verdict, and back.
-use Prim.Native.Nat.{ℕ, zero, suc, _+_, _%_, _≤_, _<_}
+use Prim.Native.Nat.{ℕ, zero, suc, _+_, _-_, _%_, _≤_, _<_}
 use native.Mathlib.Nat.{add-zero, zero-add}
 use native.Mathlib.Omega.{arith}
 use mathlib.Core.Bool.{Bool, true, _&&_}
@@ -16,11 +16,19 @@ use Rattle.refusals.specs.Refusals.{ask}
 use Rattle.refusals.specs.VerdictLaws.{asked, first-passed, next-passed}
 use Rattle.image.specs.Layout.{lineCount, linePlace, kindAt, zeroAt, offsetAt, lengthAt, sumAt, bodyAt, startVerdict, countVerdict, lineRight, linesVerdict, sumsVerdict, layoutVerdict}
 
+-- ---- a loop over the lines, i of them passed
+
+pub one-left : (count i : ℕ) → i < count → count - i ≡ suc (count - (i + 1))
+one-left count i h = omega arith
+
+pub none-left : (count i : ℕ) → count ≤ i → count - i ≡ 0
+none-left count i h = omega arith
+
+-- ---- the start, and the number of lines
+
 -- each of three tests
 each : (a b c : Bool) → (a && b && c) ≡ true → (a ≡ true) × (b ≡ true) × (c ≡ true)
 each a b c e = let two = both-left (a && b) c e in (both-left a b two, both-right a b two, both-right (a && b) c e)
-
--- ---- the start, and the number of lines
 
 pub record Started (image : List ℕ) : Type 0 where
   pub enough : 2 ≤ length image

@@ -161,6 +161,6 @@ image-bytes ss fit b =
     (bytes-contents (linePlace (length ss)) 0 ss (fit .rising) (omega (arith, fit .room)))))
     b
 
--- ---- so no two lists of sections have the same image
+-- no two lists of sections have the same image
 pub same-image : (ss ts : List Section) → imageOf ss ≡ imageOf ts → ss ≡ ts
 same-image ss ts e = sym (sections-of-image ss) ∙ ap sections e ∙ sections-of-image ts

@@ -22,6 +22,10 @@ pub asked : (holds : Bool) (number detail : ℕ) → ask holds number detail ≡
 asked true number detail e = refl
 asked false number detail e = never-both refl e
 
+pub ask-unpassed : (holds : Bool) (number detail : ℕ) → (ask holds number detail ≡ Accepted → ⊥) → ask holds number detail ≡ Refused (refusal number detail)
+ask-unpassed true number detail f = absurd (f refl)
+ask-unpassed false number detail f = refl
+
 -- two checks, one after the other
 pub passes : {first : Verdict} (next : Verdict) → first ≡ Accepted → andThen first next ≡ next
 passes next e = rw e
