@@ -387,7 +387,7 @@ module _ {M : Type 1} (𝓤 : URA M) (H : Heap 𝓤) (A : Atoms 𝓤) (W : Given
             assigns ! (addr ! (from ! (fld ! refl (hop ! (look-in ! (spot 3) (sub ! 0 refl (whole !))) (stop !))))) (local !) (init ! (spot 12) refl (tt, tt)) $
             assigns ! (agg ! (and-then ! (value ! (spot 12) refl) (and-then ! (load ! (from ! (fld ! refl (stop !))) (look-in ! (spot 3) (sub ! 1 refl (whole !)))) (no-more !)))) (local !)
             (init ! (spot 13) refl (mut-slice-lawful 𝓤 H A W erased κ₂ u8 .typed image (v₂ ∷ []) is-image .0)) $
-            -- `build_table`
+            -- `build_table`, for which its tokens and what it is handed come to the front
             move ! (31 ∷ 33 ∷ []) $
             use2 W (raw (BuildTable 𝓤 H A mem run .pre (to-build-table (s .table) (s .held)))) (asks-build-table (s .table) (s .held) (s .is)) $
             calls-at ! fm (BuildTable 𝓤 H A mem run) known-build-table (to-build-table (s .table) (s .held))
@@ -395,7 +395,7 @@ module _ {M : Type 1} (𝓤 : URA M) (H : Heap 𝓤) (A : Atoms 𝓤) (W : Given
             told filled-row (lasts build-table.ended (κ₁, (κ₂, tt)) (s .table, (bodies, (image, tt)))) w Tokens (λ r ends. Filling s r (ends .1 .1 .0)) (id⊢ 𝓤 _) tt (λ r ends fills.
             -- of the parameters at exit only the image has something to say: its last list, and that it is as long as it was
             move ! (2 ∷ []) $ fsplit ! $ drop ! $ fsplit ! $ drop ! $ fsplit ! $ fsplit ! $ move ! (1 ∷ []) $ feqL ! (λ long.
-            -- the result; the image's last list, the token and the borrow stand before the locals too, so four items more
+            -- the result; four items more stand before the locals: what it owns, the image's last list, the tokens, and one that says nothing
             move ! (3 ∷ []) $ peeks ! filled-row (Is filled-row) (shows 𝓤 H A filled-row) r (w ∷ []) (λ is.
             land ! (local !) (init ! (4 + spot 0) refl (enum-lawful filled-type filled-laws 𝓤 H A W tt .typed r _ is .0)) $ returns ! (look ! (4 + spot 0) refl) $
             -- the locals are freed, the first first
