@@ -1,1 +1,8 @@
 pub mod Build
+pub mod Lines
+pub mod BuildLaws
+pub mod TableLaws
+pub mod CheckLaws
+pub mod WriteLaws
+pub mod GatherLaws
+pub mod Built

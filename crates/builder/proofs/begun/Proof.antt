@@ -1,0 +1,40 @@
+use borrow.Author.Needs.{needs}
+use Rattle.builder.proofs.begun.Statement.{statement}
+use Rattle.builder.proofs.begun.Tie as tie
+use Rattle.builder.specs.CheckLaws.{buildable}
+use Rattle.builder.specs.WriteLaws.{begun-accepted, begun-refused}
+
+ruleset laws = (needs, buildable, begun-accepted, begun-refused)
+
+verdict-requires : tie.Need-verdict-requires
+verdict-requires c κs = search laws
+
+enum-told : tie.Need-enum-told
+enum-told c = search laws
+
+image-requires : tie.Need-image-requires
+image-requires c κs = search laws
+
+enum-known-verdict : tie.Need-enum-known-verdict
+enum-known-verdict c = search laws
+
+same-length : tie.Need-same-length
+same-length c = search laws
+
+returns : tie.Need-returns
+returns c = search laws
+
+returns-2 : tie.Need-returns-2
+returns-2 c = search laws
+
+pub begun-spec : {M : Type 1} → statement M
+begun-spec =
+    tie.close
+    (tie.spec
+    verdict-requires
+    enum-told
+    image-requires
+    enum-known-verdict
+    same-length
+    returns
+    returns-2)

@@ -1,0 +1,56 @@
+use borrow.Author.Needs.{needs}
+use Rattle.builder.proofs.check.kinds_rise.Statement.{statement}
+use Rattle.builder.proofs.check.kinds_rise.Tie as tie
+use Prim.Native.Nat.{_-_}
+use Rattle.builder.specs.CheckLaws.{Rising, rising-first, rising-more, rising-low, rising-high, rising-end}
+
+ruleset laws = (needs, rising-first, rising-more, rising-low, rising-high, rising-end)
+
+abbrev Inv-loop : tie.InvT-loop
+Inv-loop table previous₀ i₀ previous i = Rising table previous i
+
+abbrev μ-loop : tie.MeasureT-loop
+μ-loop table previous₀ i₀ previous i = table .count - i
+
+loop-holds : tie.Need-loop-holds Inv-loop μ-loop
+loop-holds c = search laws
+
+mul-kind : tie.Need-mul-kind Inv-loop μ-loop
+mul-kind c = search laws
+
+element-copy-out-kind : tie.Need-element-copy-out-kind Inv-loop μ-loop
+element-copy-out-kind c = search laws
+
+returns : tie.Need-returns Inv-loop μ-loop
+returns c = search laws
+
+returns-2 : tie.Need-returns-2 Inv-loop μ-loop
+returns-2 c = search laws
+
+add-i : tie.Need-add-i Inv-loop μ-loop
+add-i c = search laws
+
+loop-less : tie.Need-loop-less Inv-loop μ-loop
+loop-less c = search laws
+
+loop-again : tie.Need-loop-again Inv-loop μ-loop
+loop-again c = search laws
+
+returns-3 : tie.Need-returns-3 Inv-loop μ-loop
+returns-3 c = search laws
+
+pub kinds-rise-spec : {M : Type 1} → statement M
+kinds-rise-spec =
+    tie.close
+    (tie.spec
+    Inv-loop
+    μ-loop
+    loop-holds
+    mul-kind
+    element-copy-out-kind
+    returns
+    returns-2
+    add-i
+    loop-less
+    loop-again
+    returns-3)

@@ -1,0 +1,52 @@
+use borrow.Author.Needs.{needs}
+use Rattle.builder.proofs.check.lengths_add_up.Statement.{statement}
+use Rattle.builder.proofs.check.lengths_add_up.Tie as tie
+use Prim.Native.Nat.{_-_}
+use Rattle.builder.specs.CheckLaws.{Adding, adding-first, adding-more, adding-short, adding-end}
+
+ruleset laws = (needs, adding-first, adding-more, adding-short, adding-end)
+
+abbrev Inv-loop : tie.InvT-loop
+Inv-loop whole table left₀ i₀ left i = Adding table whole left i
+
+abbrev μ-loop : tie.MeasureT-loop
+μ-loop whole table left₀ i₀ left i = table .count - i
+
+loop-holds : tie.Need-loop-holds Inv-loop μ-loop
+loop-holds c = search laws
+
+mul-length : tie.Need-mul-length Inv-loop μ-loop
+mul-length c = search laws
+
+element-copy-out-length : tie.Need-element-copy-out-length Inv-loop μ-loop
+element-copy-out-length c = search laws
+
+returns : tie.Need-returns Inv-loop μ-loop
+returns c = search laws
+
+add-i : tie.Need-add-i Inv-loop μ-loop
+add-i c = search laws
+
+loop-less : tie.Need-loop-less Inv-loop μ-loop
+loop-less c = search laws
+
+loop-again : tie.Need-loop-again Inv-loop μ-loop
+loop-again c = search laws
+
+returns-2 : tie.Need-returns-2 Inv-loop μ-loop
+returns-2 c = search laws
+
+pub lengths-add-up-spec : {M : Type 1} → statement M
+lengths-add-up-spec =
+    tie.close
+    (tie.spec
+    Inv-loop
+    μ-loop
+    loop-holds
+    mul-length
+    element-copy-out-length
+    returns
+    add-i
+    loop-less
+    loop-again
+    returns-2)

@@ -1,0 +1,96 @@
+use borrow.Author.Needs.{needs}
+use Rattle.builder.proofs.write.contents.Statement.{statement}
+use Rattle.builder.proofs.write.contents.Tie as tie
+use Prim.Native.Nat.{_-_}
+use Rattle.builder.specs.WriteLaws.{Writing, kind-fits, length-fits, start-fits, writing-first, writing-more, writing-end}
+
+ruleset laws = (needs, kind-fits, length-fits, start-fits, writing-first, writing-more, writing-end)
+
+abbrev Inv-loop : tie.InvT-loop
+Inv-loop bodies image₀ table first start₀ i₀ image start i = Writing table bodies image₀ start i image
+
+abbrev μ-loop : tie.MeasureT-loop
+μ-loop bodies image₀ table first start₀ i₀ image start i = table .count - i
+
+line-place-requires : tie.Need-line-place-requires Inv-loop μ-loop
+line-place-requires c κs = search laws
+
+loop-holds : tie.Need-loop-holds Inv-loop μ-loop
+loop-holds c = search laws
+
+mul-length : tie.Need-mul-length Inv-loop μ-loop
+mul-length c = search laws
+
+element-copy-out-length : tie.Need-element-copy-out-length Inv-loop μ-loop
+element-copy-out-length c = search laws
+
+body-sum-requires : tie.Need-body-sum-requires Inv-loop μ-loop
+body-sum-requires c κs = search laws
+
+line-place-requires-2 : tie.Need-line-place-requires-2 Inv-loop μ-loop
+line-place-requires-2 c κs = search laws
+
+mul-line : tie.Need-mul-line Inv-loop μ-loop
+mul-line c = search laws
+
+element-copy-out-line : tie.Need-element-copy-out-line Inv-loop μ-loop
+element-copy-out-line c = search laws
+
+cast-line : tie.Need-cast-line Inv-loop μ-loop
+cast-line c = search laws
+
+add-line : tie.Need-add-line Inv-loop μ-loop
+add-line c = search laws
+
+cast-line-2 : tie.Need-cast-line-2 Inv-loop μ-loop
+cast-line-2 c = search laws
+
+cast-line-3 : tie.Need-cast-line-3 Inv-loop μ-loop
+cast-line-3 c = search laws
+
+line-requires : tie.Need-line-requires Inv-loop μ-loop
+line-requires c κs = search laws
+
+add-start : tie.Need-add-start Inv-loop μ-loop
+add-start c = search laws
+
+add-i : tie.Need-add-i Inv-loop μ-loop
+add-i c = search laws
+
+loop-less : tie.Need-loop-less Inv-loop μ-loop
+loop-less c = search laws
+
+loop-again : tie.Need-loop-again Inv-loop μ-loop
+loop-again c = search laws
+
+same-length : tie.Need-same-length Inv-loop μ-loop
+same-length c = search laws
+
+returns : tie.Need-returns Inv-loop μ-loop
+returns c = search laws
+
+pub contents-spec : {M : Type 1} → statement M
+contents-spec =
+    tie.close
+    (tie.spec
+    Inv-loop
+    μ-loop
+    line-place-requires
+    loop-holds
+    mul-length
+    element-copy-out-length
+    body-sum-requires
+    line-place-requires-2
+    mul-line
+    element-copy-out-line
+    cast-line
+    add-line
+    cast-line-2
+    cast-line-3
+    line-requires
+    add-start
+    add-i
+    loop-less
+    loop-again
+    same-length
+    returns)

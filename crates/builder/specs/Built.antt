@@ -1,0 +1,112 @@
+-- What the builder's images are.
+use mathlib.Core.Path.{_≡_, refl, sym, ap, _∙_}
+use mathlib.Core.Logic.{_↔_}
+use mathlib.Core.List.{List}
+use mathlib.Core.Option.{some}
+use Prim.Native.Nat.{ℕ, _≤_, _<_}
+use native.Mathlib.Nat.{le-refl}
+use native.Mathlib.Omega.{arith}
+use lib.ListN.{length, getD}
+use Rattle.laws.specs.Bytes.{Bytes}
+use Rattle.refusals.specs.declared.Verdict.{Verdict}
+use Rattle.refusals.specs.declared.Verdict.the-variants.{Accepted, Refused}
+use Rattle.refusals.specs.Refusals.{result, checked}
+use Rattle.image.specs.Layout.{layoutVerdict}
+use Rattle.image.specs.Sections.{sections, bodiesOf, imageOf, Fit}
+use Rattle.image.specs.RoundTrip.{image-length, image-good, image-bytes, sections-of-image}
+use Rattle.image.specs.Back.{sections-fit, sections-bytes, image-of-sections}
+use Rattle.image.specs.Find.{bodyOf, found}
+use Rattle.image.specs.FindLaws.{found-in-image}
+use Rattle.builder.specs.declared.Line.{Line}
+use Rattle.builder.specs.Build.{sectionsOf, buildVerdict, buildImage}
+use Rattle.builder.specs.Lines.{linesOf, noLine, bodyGiven}
+use Rattle.builder.specs.BuildLaws.{line-small, line-short, body-given, Passed, passed, passes, sections-counted, bodies-whole, sections-rise, lines-counted, lines-total, lines-rise, sections-again}
+
+-- a result says that the checks are passed, and what it is
+result-is : (v : Verdict) (x image : List ℕ) → checked v x ≡ result image → (v ≡ Accepted) × (x ≡ image)
+result-is Accepted x image e = (refl, cc)
+result-is (Refused r) x image e = let z : _≡_ {A = ℕ} 0 1 = cc in absurd (omega arith)
+
+module _ (size : ℕ) (lines : List Line) (bodies image : List ℕ) (made : buildImage size lines bodies ≡ result image) where
+  checked-as : (buildVerdict size lines bodies ≡ Accepted) × (imageOf (sectionsOf lines bodies) ≡ image)
+  unfolding buildImage
+  checked-as = result-is (buildVerdict size lines bodies) (imageOf (sectionsOf lines bodies)) image made
+
+  kept-to : Passed size lines bodies
+  kept-to = passed size lines bodies (checked-as .0)
+
+  fit : Fit (sectionsOf lines bodies)
+  fit =
+      let counted = sections-counted lines bodies in
+      let whole = ap length (bodies-whole lines bodies (kept-to .whole)) in
+      record {
+        some = omega (arith, kept-to .some);
+        few = omega (arith, kept-to .few);
+        rising = sections-rise 0 lines bodies (kept-to .rise);
+        room = omega (arith, kept-to .limit);
+      }
+
+  -- An accepted list of lines gives an image with a good layout.
+  pub built-good : layoutVerdict image ≡ Accepted
+  built-good = rw (← checked-as .1) (image-good (sectionsOf lines bodies) fit)
+
+  -- Its sections are the sections given.
+  pub built-sections : sections image ≡ sectionsOf lines bodies
+  built-sections = rw (← checked-as .1) (sections-of-image (sectionsOf lines bodies))
+
+  -- In it a kind has the body that was given under it, and none where none was given.
+  pub built-found : (kind : ℕ) → found image kind ≡ bodyOf kind (sectionsOf lines bodies)
+  built-found kind = rw (← checked-as .1) (found-in-image (sectionsOf lines bodies) kind fit)
+
+  -- So the kind of each line has the body that the line's length cuts out of the bodies.
+  pub built-found-line : (i : ℕ) → i < length lines → found image (getD lines i noLine .kind) ≡ some (bodyGiven lines bodies i)
+  built-found-line i h = built-found (getD lines i noLine .kind) ∙ body-given 0 lines bodies i (kept-to .rise) h
+
+  -- It is made of bytes where the bodies are.
+  pub built-bytes : Bytes bodies → Bytes image
+  built-bytes b = rw (← checked-as .1) (image-bytes (sectionsOf lines bodies) fit (rw (bodies-whole lines bodies (kept-to .whole)) b))
+
+  -- No number in an accepted list of lines is too large for a `Line`, so the list can be lent.
+  pub built-lendable : (i : ℕ) → (getD lines i noLine .kind ≤ 255) × (getD lines i noLine .length ≤ 4096)
+  built-lendable i = (line-small 0 lines i (kept-to .rise), omega (arith, line-short lines i, kept-to .whole, kept-to .limit))
+
+-- Each image with a good layout is built, byte for byte, from the lines of its own sections and their bodies joined.
+pub good-built : (size : ℕ) (image : List ℕ) → Bytes image → layoutVerdict image ≡ Accepted → length image ≤ size
+    → buildImage size (linesOf (sections image)) (bodiesOf (sections image)) ≡ result image
+unfolding buildImage
+good-built size image b good room =
+    let ss = sections image in
+    let fit = sections-fit image b good in
+    let same = image-of-sections image b good in
+    let long = sym (image-length ss) ∙ ap length same in
+    let counted = lines-counted ss in
+    let p : Passed size (linesOf ss) (bodiesOf ss) = record {
+      some = omega (arith, fit .some);
+      few = omega (arith, fit .few);
+      rise = lines-rise 0 ss (fit .rising);
+      whole = lines-total ss;
+      limit = omega (arith, fit .room);
+      room = omega arith;
+    } in
+    rw (passes size (linesOf ss) (bodiesOf ss) p, sections-again ss, same)
+
+-- an image that the builder makes of bytes
+pub record Built (image : List ℕ) : Type 0 where
+  pub size : ℕ
+  pub lines : List Line
+  pub bodies : List ℕ
+  pub bytes : Bytes bodies
+  pub made : buildImage size lines bodies ≡ result image
+
+-- The builder's images are exactly those with a good layout.
+pub built-exactly : (image : List ℕ) → Built image ↔ (Bytes image × (layoutVerdict image ≡ Accepted))
+built-exactly image = (
+  λ b. (built-bytes (b .size) (b .lines) (b .bodies) image (b .made) (b .bytes), built-good (b .size) (b .lines) (b .bodies) image (b .made)),
+  λ g. record {
+    size = length image;
+    lines = linesOf (sections image);
+    bodies = bodiesOf (sections image);
+    bytes = sections-bytes image (g .0) (g .1);
+    made = good-built (length image) image (g .0) (g .1) (le-refl (length image));
+  },
+)

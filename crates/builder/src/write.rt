@@ -1,0 +1,93 @@
+ghost use mathlib.Core.Path.{_≡_};
+ghost use mathlib.Core.List.{_++_, [], _∷_};
+ghost use Prim.Native.Nat.{_+_, _%_, _≤_};
+ghost use lib.ListN.{length, take, drop};
+ghost use Rattle.laws.specs.Sums.{total};
+ghost use Rattle.refusals.specs.Refusals.{result};
+ghost use Rattle.refusals.specs.RefusalsLaws.{Begins};
+ghost use Rattle.image.specs.Layout.{linePlace};
+ghost use Rattle.image.specs.Sections.{contentsLine, contentsFrom, imageOf};
+ghost use Rattle.builder.specs.Build.{sectionsOf, tableLines};
+ghost use Rattle.builder.specs.CheckLaws.{Buildable};
+use crate::Table;
+use crate::place;
+use numbers::slices;
+use refusals::Filled;
+
+// A contents line from `place` on.
+fn line(image: &mut [u8], place: usize, kind: u8, offset: u16, size: u16, sum: u16)
+    requires { ⌜ place + 8 ≤ length (now image) ⌝ }
+    ensures { λ _. ⌜ take (place + 8) (now (image .exit)) ≡ take place (now (image .entry)) ++ contentsLine kind offset size sum ⌝ }
+{
+    image[place] = kind;
+    image[place + 1] = 0;
+    image[place + 2] = (offset % 256) as u8;
+    image[place + 3] = (offset / 256) as u8;
+    image[place + 4] = (size % 256) as u8;
+    image[place + 5] = (size / 256) as u8;
+    image[place + 6] = (sum % 256) as u8;
+    image[place + 7] = (sum / 256) as u8;
+}
+
+// The sum of the body that begins at `start`.
+fn body_sum(bodies: &[u8], start: usize, length: usize) -> u16
+    ensures { λ r. ⌜ r ≡ total (take length (drop start (now (bodies .entry)))) % 65536 ⌝ }
+{
+    slices::byte_sum(slices::part(bodies, start, length))
+}
+
+// The contents lines, after the image's first two bytes.
+fn contents(table: Table, bodies: &[u8], image: &mut [u8])
+    requires { ⌜ Buildable table (now bodies) (length (now image)) ⌝ }
+    ensures { λ _. ⌜ take (linePlace (table .count)) (now (image .exit)) ≡ take 2 (now (image .entry)) ++ contentsFrom (linePlace (table .count)) (sectionsOf (tableLines table) (now (bodies .entry))) ⌝ }
+{
+    let first = place::line_place(table.count);
+    let mut start: usize = 0;
+    let mut i: usize = 0;
+    while i < table.count {
+        let length = table.lengths[i];
+        let sum = body_sum(bodies, start, length);
+        line(
+            image,
+            place::line_place(i),
+            table.kinds[i] as u8,
+            (first + start) as u16,
+            length as u16,
+            sum,
+        );
+        start += length;
+        i += 1;
+    }
+}
+
+// The bodies as one block, from `place` on.
+fn block(image: &mut [u8], place: usize, bodies: &[u8])
+    requires { ⌜ place + length (now bodies) ≤ length (now image) ⌝ }
+    ensures { λ _. ⌜ take (place + length (now (bodies .entry))) (now (image .exit)) ≡ take place (now (image .entry)) ++ now (bodies .entry) ⌝ }
+{
+    let mut i: usize = 0;
+    while i < bodies.len() {
+        image[place + i] = bodies[i];
+        i += 1;
+    }
+}
+
+// The image's first two bytes.
+fn start(image: &mut [u8], count: u8)
+    requires { ⌜ 2 ≤ length (now image) ⌝ }
+    ensures { λ _. ⌜ take 2 (now (image .exit)) ≡ 0x51 ∷ count ∷ [] ⌝ }
+{
+    image[0] = 0x51;
+    image[1] = count;
+}
+
+// The image, from the buffer's start.
+pub fn image(table: Table, bodies: &[u8], image: &mut [u8]) -> Filled
+    requires { ⌜ Buildable table (now bodies) (length (now image)) ⌝ }
+    ensures { λ r. ⌜ Begins (result (imageOf (sectionsOf (tableLines table) (now (bodies .entry))))) r (now (image .exit)) ⌝ }
+{
+    start(image, table.count as u8);
+    contents(table, bodies, image);
+    block(image, place::line_place(table.count), bodies);
+    Filled::Length(place::image_length(table.count, bodies))
+}
