@@ -3,6 +3,7 @@ use mathlib.Core.Bool.{cond}
 use mathlib.Core.List.{List, [], _∷_}
 use mathlib.Core.Option.{Option, none, some}
 use Prim.Native.Nat.{ℕ}
+use lib.Dec.{eqb}
 use Rattle.refusals.specs.declared.Verdict.{Verdict}
 use Rattle.refusals.specs.declared.Verdict.the-variants.{Accepted}
 use Rattle.refusals.specs.Refusals.{ask, andThen}
@@ -31,23 +32,32 @@ presentVerdict kind ss = ask (isThere (bodyOf kind ss)) 10 kind
 unfoldable pub missingVerdict : List Section → Verdict
 missingVerdict ss = andThen (presentVerdict 1 ss) (andThen (presentVerdict 2 ss) (presentVerdict 3 ss))
 
+-- 11, 12, 13, 15, 16: the body of each kind that some level knows
+unfoldable pub kindVerdict : (kind : ℕ) → (body : List ℕ) → Verdict
+kindVerdict kind body =
+    cond (eqb kind 1) (identityVerdict body)
+    (cond (eqb kind 2) (setVerdict 12 body)
+    (cond (eqb kind 3) (setVerdict 13 body)
+    (cond (eqb kind 4) (trimVerdict body)
+    (cond (eqb kind 129) (noteVerdict body)
+    Accepted))))
+
 -- a body, where it is there
-abbrev pub bodyVerdict : (List ℕ → Verdict) → Option (List ℕ) → Verdict
-bodyVerdict verdict none = Accepted
-bodyVerdict verdict (some body) = verdict body
+abbrev pub thereVerdict : (List ℕ → Verdict) → Option (List ℕ) → Verdict
+thereVerdict verdict none = Accepted
+thereVerdict verdict (some body) = verdict body
 
 -- and where the level knows its kind
-abbrev pub knownVerdict : (level kind : ℕ) → (List ℕ → Verdict) → List Section → Verdict
-knownVerdict level kind verdict ss = cond (knows level kind) (bodyVerdict verdict (bodyOf kind ss)) Accepted
+unfoldable pub bodyVerdict : (level kind : ℕ) → List Section → Verdict
+bodyVerdict level kind ss = cond (knows level kind) (thereVerdict (kindVerdict kind) (bodyOf kind ss)) Accepted
 
--- 11, 12, 13, 15, 16
 unfoldable pub bodiesVerdict : (level : ℕ) → List Section → Verdict
 bodiesVerdict level ss =
-    andThen (knownVerdict level 1 identityVerdict ss)
-    (andThen (knownVerdict level 2 (setVerdict 12) ss)
-    (andThen (knownVerdict level 3 (setVerdict 13) ss)
-    (andThen (knownVerdict level 4 trimVerdict ss)
-    (knownVerdict level 129 noteVerdict ss))))
+    andThen (bodyVerdict level 1 ss)
+    (andThen (bodyVerdict level 2 ss)
+    (andThen (bodyVerdict level 3 ss)
+    (andThen (bodyVerdict level 4 ss)
+    (bodyVerdict level 129 ss))))
 
 unfoldable pub sectionsVerdict : (level : ℕ) → List Section → Verdict
 sectionsVerdict level ss = andThen (unknownVerdict level ss) (andThen (missingVerdict ss) (bodiesVerdict level ss))

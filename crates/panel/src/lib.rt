@@ -1,1 +1,12 @@
 // What a panel says of an image, of counts and of a text.
+
+// Which kinds a level knows.
+mod levels;
+
+// The verdict on an image.
+mod verdicts;
+pub use verdicts::verdict;
+
+// The reading of an image.
+mod readings;
+pub use readings::reading;

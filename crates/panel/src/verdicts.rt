@@ -1,0 +1,147 @@
+use crate::levels;
+use finder::Place;
+use refusals::Refusal;
+use refusals::Verdict;
+ghost use mathlib.Core.Path.{_≡_};
+ghost use Rattle.refusals.specs.Refusals.{refusal};
+ghost use Rattle.image.specs.Sections.{sections};
+ghost use Rattle.panel.specs.Verdict.{levelVerdict, unknownVerdict, presentVerdict, missingVerdict, kindVerdict, bodyVerdict, bodiesVerdict, verdictOf};
+
+fn refused(number: u32, detail: u64) -> Verdict
+    ensures { λ r. ⌜ r ≡ Verdict.Refused (refusal number detail) ⌝ }
+{
+    Verdict::Refused(Refusal { number, detail })
+}
+
+// Refusal 20.
+fn level_verdict(level: u32) -> Verdict
+    ensures { λ r. ⌜ r ≡ levelVerdict level ⌝ }
+{
+    if levels::is_level(level) {
+        return Verdict::Accepted;
+    }
+    refused(20, 0)
+}
+
+// Refusal 9.
+fn unknown_verdict(image: &[u8], level: u32) -> Verdict
+    ensures { λ r. ⌜ r ≡ unknownVerdict level (sections (now (image .entry))) ⌝ }
+{
+    let count = numbers::fields::number1(image, 1) as usize;
+    let mut i: usize = 0;
+    while i < count {
+        let kind = numbers::fields::number1(image, 2 + 8 * i) as u32;
+        if !levels::may_pass(level, kind) {
+            return refused(9, kind as u64);
+        }
+        i += 1;
+    }
+    Verdict::Accepted
+}
+
+fn present_verdict(image: &[u8], kind: u32) -> Verdict
+    ensures { λ r. ⌜ r ≡ presentVerdict kind (sections (now (image .entry))) ⌝ }
+{
+    let place = finder::stated(image, kind);
+    match place {
+        Place::At(_, _) => Verdict::Accepted,
+        Place::Nowhere => refused(10, kind as u64),
+    }
+}
+
+// Refusal 10.
+fn missing_verdict(image: &[u8]) -> Verdict
+    ensures { λ r. ⌜ r ≡ missingVerdict (sections (now (image .entry))) ⌝ }
+{
+    let first = present_verdict(image, 1);
+    let Verdict::Accepted = first else {
+        return first;
+    };
+    let second = present_verdict(image, 2);
+    let Verdict::Accepted = second else {
+        return second;
+    };
+    present_verdict(image, 3)
+}
+
+// The body of a kind, wherever it stands.
+fn kind_verdict(kind: u32, body: &[u8]) -> Verdict
+    ensures { λ r. ⌜ r ≡ kindVerdict kind (now (body .entry)) ⌝ }
+{
+    if kind == 1 {
+        return bodies::identity_verdict(body);
+    }
+    if kind == 2 {
+        return bodies::set_verdict(body, 12);
+    }
+    if kind == 3 {
+        return bodies::set_verdict(body, 13);
+    }
+    if kind == 4 {
+        return bodies::trim_verdict(body);
+    }
+    if kind == 129 {
+        return bodies::note_verdict(body);
+    }
+    Verdict::Accepted
+}
+
+// The body of a kind, as the part of the image where it stands, if it is there and the level knows the kind.
+fn body_verdict(image: &[u8], level: u32, kind: u32) -> Verdict
+    ensures { λ r. ⌜ r ≡ bodyVerdict level kind (sections (now (image .entry))) ⌝ }
+{
+    if !levels::knows(level, kind) {
+        return Verdict::Accepted;
+    }
+    let place = finder::stated(image, kind);
+    match place {
+        Place::At(_, _) => kind_verdict(kind, finder::part_at(image, place)),
+        Place::Nowhere => Verdict::Accepted,
+    }
+}
+
+// Refusals 11, 12, 13, 15, 16.
+fn bodies_verdict(image: &[u8], level: u32) -> Verdict
+    ensures { λ r. ⌜ r ≡ bodiesVerdict level (sections (now (image .entry))) ⌝ }
+{
+    let identity = body_verdict(image, level, 1);
+    let Verdict::Accepted = identity else {
+        return identity;
+    };
+    let pressure = body_verdict(image, level, 2);
+    let Verdict::Accepted = pressure else {
+        return pressure;
+    };
+    let temperature = body_verdict(image, level, 3);
+    let Verdict::Accepted = temperature else {
+        return temperature;
+    };
+    let trim = body_verdict(image, level, 4);
+    let Verdict::Accepted = trim else {
+        return trim;
+    };
+    body_verdict(image, level, 129)
+}
+
+// What a panel of this level says of an image: accepted, or its first refusal.
+pub fn verdict(image: &[u8], level: u32) -> Verdict
+    ensures { λ r. ⌜ r ≡ verdictOf level (now (image .entry)) ⌝ }
+{
+    let known = level_verdict(level);
+    let Verdict::Accepted = known else {
+        return known;
+    };
+    let laid = layout::layout(image);
+    let Verdict::Accepted = laid else {
+        return laid;
+    };
+    let unknown = unknown_verdict(image, level);
+    let Verdict::Accepted = unknown else {
+        return unknown;
+    };
+    let missing = missing_verdict(image);
+    let Verdict::Accepted = missing else {
+        return missing;
+    };
+    bodies_verdict(image, level)
+}
