@@ -18,10 +18,10 @@ identityOf body =
       year = numberAt 2 body 4;
       month = numberAt 1 body 6;
       day = numberAt 1 body 7;
-      lowest-temperature = signedAt 4 body 8;
-      highest-temperature = signedAt 4 body 12;
-      lowest-pressure = signedAt 4 body 16;
-      highest-pressure = signedAt 4 body 20;
+      tmin = signedAt 4 body 8;
+      tmax = signedAt 4 body 12;
+      pmin = signedAt 4 body 16;
+      pmax = signedAt 4 body 20;
     }
 
 -- the Gregorian calendar

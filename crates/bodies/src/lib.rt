@@ -6,10 +6,10 @@ pub struct Identity {
     pub year: u16,
     pub month: u8,
     pub day: u8,
-    pub lowest_temperature: i32,
-    pub highest_temperature: i32,
-    pub lowest_pressure: i32,
-    pub highest_pressure: i32,
+    pub tmin: i32,
+    pub tmax: i32,
+    pub pmin: i32,
+    pub pmax: i32,
 }
 
 // How a set prescales one channel's frequency.
