@@ -1,4 +1,19 @@
-// The bodies of the kinds that a panel knows: is one right, and what it says.
+// The bodies of the kinds that a panel knows: is one right, and what it says. Every function answers for every slice.
+use refusals::{Refusal, Verdict};
+
+ghost use mathlib.Core.Path.{_≡_};
+ghost use Rattle.refusals.specs.Refusals.{refusal};
+ghost use Rattle.refusals.specs.declared.Verdict.the-variants.{Refused};
+
+mod identities;
+mod notes;
+mod sets;
+mod trims;
+
+pub use identities::{identity_verdict, read_identity};
+pub use notes::note_verdict;
+pub use sets::{read_grid, read_set, set_verdict};
+pub use trims::{read_trim, trim_verdict};
 
 // Kind 1. Temperatures are whole °C, pressures whole psi.
 pub struct Identity {
@@ -30,4 +45,11 @@ pub struct Trim {
     pub unit: u8,
     pub span: u32,
     pub zero: i64,
+}
+
+// A body whose fields are not all right.
+fn refused(number: u32) -> Verdict
+    ensures { λ r. ⌜ r ≡ Refused (refusal number 0) ⌝ }
+{
+    Verdict::Refused(Refusal { number, detail: 0 })
 }

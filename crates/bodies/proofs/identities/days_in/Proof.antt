@@ -1,0 +1,25 @@
+use borrow.Author.Needs.{needs}
+use Rattle.bodies.proofs.identities.days_in.Statement.{statement}
+use Rattle.bodies.proofs.identities.days_in.Tie as tie
+use Rattle.bodies.proofs.identities.days_in.Reads as reads
+use Rattle.bodies.proofs.identities.days_in.Lts as lts
+use Rattle.bodies.proofs.identities.leap_year.Reads as leap-year-reads
+
+leap-year-requires : tie.Need-leap-year-requires
+leap-year-requires c κs = search needs
+
+sub-result : tie.Need-sub-result
+sub-result c = search needs
+
+cast-result : tie.Need-cast-result
+cast-result c = search needs
+
+array-read-result : tie.Need-array-read-result
+array-read-result c = search needs
+
+returns : tie.Need-returns
+returns c = ?
+
+pub days-in-spec : {M : Type 1} → statement M
+days-in-spec =
+    tie.close (tie.spec leap-year-requires sub-result cast-result array-read-result returns)

@@ -1,0 +1,99 @@
+use borrow.Author.Needs.{needs}
+use Rattle.bodies.proofs.identities.identity_verdict.Statement.{statement}
+use Rattle.bodies.proofs.identities.identity_verdict.Tie as tie
+use Rattle.bodies.proofs.identities.identity_verdict.Reads as reads
+use Rattle.bodies.proofs.identities.identity_verdict.Lts as lts
+use Rattle.bodies.proofs.identities.days_in.Reads as days-in-reads
+use Rattle.bodies.proofs.refused.Reads as refused-reads
+use Rattle.numbers.proofs.fields.number1.Reads as number1-reads
+use Rattle.numbers.proofs.fields.number2.Reads as number2-reads
+use Rattle.numbers.proofs.fields.signed4.Reads as signed4-reads
+
+refused-requires : tie.Need-refused-requires
+refused-requires c κs = search needs
+
+returns : tie.Need-returns
+returns c = ?
+
+number2-requires : tie.Need-number2-requires
+number2-requires c κs = search needs
+
+refused-requires-2 : tie.Need-refused-requires-2
+refused-requires-2 c κs = search needs
+
+returns-2 : tie.Need-returns-2
+returns-2 c = ?
+
+number1-requires : tie.Need-number1-requires
+number1-requires c κs = search needs
+
+refused-requires-3 : tie.Need-refused-requires-3
+refused-requires-3 c κs = search needs
+
+returns-3 : tie.Need-returns-3
+returns-3 c = ?
+
+number1-requires-2 : tie.Need-number1-requires-2
+number1-requires-2 c κs = search needs
+
+days-in-requires : tie.Need-days-in-requires
+days-in-requires c κs = search needs
+
+refused-requires-4 : tie.Need-refused-requires-4
+refused-requires-4 c κs = search needs
+
+returns-4 : tie.Need-returns-4
+returns-4 c = ?
+
+signed4-requires : tie.Need-signed4-requires
+signed4-requires c κs = search needs
+
+signed4-requires-2 : tie.Need-signed4-requires-2
+signed4-requires-2 c κs = search needs
+
+refused-requires-5 : tie.Need-refused-requires-5
+refused-requires-5 c κs = search needs
+
+returns-5 : tie.Need-returns-5
+returns-5 c = ?
+
+signed4-requires-3 : tie.Need-signed4-requires-3
+signed4-requires-3 c κs = search needs
+
+signed4-requires-4 : tie.Need-signed4-requires-4
+signed4-requires-4 c κs = search needs
+
+refused-requires-6 : tie.Need-refused-requires-6
+refused-requires-6 c κs = search needs
+
+returns-6 : tie.Need-returns-6
+returns-6 c = ?
+
+returns-7 : tie.Need-returns-7
+returns-7 c = ?
+
+pub identity-verdict-spec : {M : Type 1} → statement M
+identity-verdict-spec =
+    tie.close
+    (tie.spec
+    refused-requires
+    returns
+    number2-requires
+    refused-requires-2
+    returns-2
+    number1-requires
+    refused-requires-3
+    returns-3
+    number1-requires-2
+    days-in-requires
+    refused-requires-4
+    returns-4
+    signed4-requires
+    signed4-requires-2
+    refused-requires-5
+    returns-5
+    signed4-requires-3
+    signed4-requires-4
+    refused-requires-6
+    returns-6
+    returns-7)

@@ -1,0 +1,98 @@
+use borrow.Author.Needs.{needs}
+use Rattle.bodies.proofs.trims.trim_verdict.Statement.{statement}
+use Rattle.bodies.proofs.trims.trim_verdict.Tie as tie
+use Rattle.bodies.proofs.trims.trim_verdict.Reads as reads
+use Rattle.bodies.proofs.trims.trim_verdict.Lts as lts
+use Rattle.bodies.proofs.refused.Reads as refused-reads
+use Rattle.numbers.proofs.fields.number1.Reads as number1-reads
+use Rattle.numbers.proofs.fields.number4.Reads as number4-reads
+use Rattle.numbers.proofs.fields.signed8.Reads as signed8-reads
+
+refused-requires : tie.Need-refused-requires
+refused-requires c κs = search needs
+
+returns : tie.Need-returns
+returns c = ?
+
+number1-requires : tie.Need-number1-requires
+number1-requires c κs = search needs
+
+refused-requires-2 : tie.Need-refused-requires-2
+refused-requires-2 c κs = search needs
+
+returns-2 : tie.Need-returns-2
+returns-2 c = ?
+
+number1-requires-2 : tie.Need-number1-requires-2
+number1-requires-2 c κs = search needs
+
+refused-requires-3 : tie.Need-refused-requires-3
+refused-requires-3 c κs = search needs
+
+returns-3 : tie.Need-returns-3
+returns-3 c = ?
+
+number1-requires-3 : tie.Need-number1-requires-3
+number1-requires-3 c κs = search needs
+
+refused-requires-4 : tie.Need-refused-requires-4
+refused-requires-4 c κs = search needs
+
+returns-4 : tie.Need-returns-4
+returns-4 c = ?
+
+number1-requires-4 : tie.Need-number1-requires-4
+number1-requires-4 c κs = search needs
+
+refused-requires-5 : tie.Need-refused-requires-5
+refused-requires-5 c κs = search needs
+
+returns-5 : tie.Need-returns-5
+returns-5 c = ?
+
+number4-requires : tie.Need-number4-requires
+number4-requires c κs = search needs
+
+refused-requires-6 : tie.Need-refused-requires-6
+refused-requires-6 c κs = search needs
+
+returns-6 : tie.Need-returns-6
+returns-6 c = ?
+
+signed8-requires : tie.Need-signed8-requires
+signed8-requires c κs = search needs
+
+refused-requires-7 : tie.Need-refused-requires-7
+refused-requires-7 c κs = search needs
+
+returns-7 : tie.Need-returns-7
+returns-7 c = ?
+
+returns-8 : tie.Need-returns-8
+returns-8 c = ?
+
+pub trim-verdict-spec : {M : Type 1} → statement M
+trim-verdict-spec =
+    tie.close
+    (tie.spec
+    refused-requires
+    returns
+    number1-requires
+    refused-requires-2
+    returns-2
+    number1-requires-2
+    refused-requires-3
+    returns-3
+    number1-requires-3
+    refused-requires-4
+    returns-4
+    number1-requires-4
+    refused-requires-5
+    returns-5
+    number4-requires
+    refused-requires-6
+    returns-6
+    signed8-requires
+    refused-requires-7
+    returns-7
+    returns-8)

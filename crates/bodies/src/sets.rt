@@ -1,0 +1,137 @@
+use super::{refused, Prescale, Set};
+use numbers::fields::{number1, number4, number8, signed8};
+use refusals::Verdict;
+
+ghost use mathlib.Core.Path.{_≡_};
+ghost use Prim.Native.Nat.{_≤_, _<_};
+ghost use Rattle.refusals.specs.Refusals.{fieldsVerdict};
+ghost use Rattle.bodies.specs.Set.{setOf, setVerdict, multiplierRight, offsetRight, coefficientFields, pressureOrder, temperatureOrder, gridPlace, rowFrom, gridOf};
+
+pub fn read_set(body: &[u8]) -> Set
+    ensures { λ r. ⌜ r ≡ setOf (now (body .entry)) ⌝ }
+{
+    let pressure = Prescale {
+        order: number1(body, 2),
+        multiplier: number4(body, 4),
+        offset: number8(body, 8),
+    };
+    let temperature = Prescale {
+        order: number1(body, 3),
+        multiplier: number4(body, 16),
+        offset: number8(body, 20),
+    };
+    Set {
+        pressure,
+        temperature,
+    }
+}
+
+pub fn set_verdict(body: &[u8], number: u32) -> Verdict
+    ensures { λ r. ⌜ r ≡ setVerdict number (now (body .entry)) ⌝ }
+{
+    if number1(body, 0) != 1 {
+        return refused(number);
+    }
+    if number1(body, 1) != 1 {
+        return refused(number);
+    }
+    let pressure_order = number1(body, 2);
+    if 4 < pressure_order {
+        return refused(number);
+    }
+    let temperature_order = number1(body, 3);
+    if 4 < temperature_order {
+        return refused(number);
+    }
+    let count = (pressure_order as usize + 1) * (temperature_order as usize + 1);
+    if body.len() != 28 + 8 * count {
+        return refused(number);
+    }
+    if !multiplier_right(pressure_order, number4(body, 4)) {
+        return refused(number);
+    }
+    if !offset_right(pressure_order, number8(body, 8)) {
+        return refused(number);
+    }
+    if !multiplier_right(temperature_order, number4(body, 16)) {
+        return refused(number);
+    }
+    if !offset_right(temperature_order, number8(body, 20)) {
+        return refused(number);
+    }
+    coefficients_verdict(body, count, number)
+}
+
+fn multiplier_right(order: u8, multiplier: u32) -> bool
+    ensures { λ r. ⌜ r ≡ multiplierRight order multiplier ⌝ }
+{
+    if order == 0 {
+        return multiplier == 0;
+    }
+    1 <= multiplier && multiplier <= 1073741824
+}
+
+fn offset_right(order: u8, offset: u64) -> bool
+    ensures { λ r. ⌜ r ≡ offsetRight order offset ⌝ }
+{
+    if order == 0 {
+        return offset == 0;
+    }
+    offset <= 6553600000
+}
+
+fn coefficients_verdict(body: &[u8], count: usize, number: u32) -> Verdict
+    requires { ⌜ count ≤ 25 ⌝ }
+    ensures { λ r. ⌜ r ≡ fieldsVerdict number (coefficientFields (now (body .entry)) count 0) ⌝ }
+{
+    let mut i: usize = 0;
+    while i < count {
+        let coefficient = signed8(body, 28 + 8 * i);
+        if coefficient < -17179869184 || 17179869184 < coefficient {
+            return refused(number);
+        }
+        i += 1;
+    }
+    Verdict::Accepted
+}
+
+pub fn read_grid(body: &[u8]) -> [[i64; 5]; 5]
+    ensures { λ r. ⌜ r ≡ gridOf (now (body .entry)) ⌝ }
+{
+    let pressure_order = number1(body, 2) as usize;
+    let temperature_order = number1(body, 3) as usize;
+    let mut grid = [[0i64; 5]; 5];
+    let mut row: usize = 0;
+    while row < 5 {
+        let coefficients = read_row(body, pressure_order, temperature_order, row);
+        grid[row] = coefficients;
+        row += 1;
+    }
+    grid
+}
+
+fn read_row(body: &[u8], pressure_order: usize, temperature_order: usize, row: usize) -> [i64; 5]
+    requires { ⌜ (pressure_order ≡ pressureOrder (now body)) × (temperature_order ≡ temperatureOrder (now body)) × (temperature_order < 256) × (row < 5) ⌝ }
+    ensures { λ r. ⌜ r ≡ rowFrom (now (body .entry)) row 5 0 ⌝ }
+{
+    let mut coefficients = [0i64; 5];
+    let mut place: usize = 0;
+    while place < 5 {
+        coefficients[place] = grid_place(body, pressure_order, temperature_order, row, place);
+        place += 1;
+    }
+    coefficients
+}
+
+fn grid_place(body: &[u8], pressure_order: usize, temperature_order: usize, row: usize, place: usize) -> i64
+    requires { ⌜ (pressure_order ≡ pressureOrder (now body)) × (temperature_order ≡ temperatureOrder (now body)) × (temperature_order < 256) × (row < 5) × (place < 5) ⌝ }
+    ensures { λ r. ⌜ r ≡ gridPlace (now (body .entry)) row place ⌝ }
+{
+    if pressure_order < row {
+        return 0;
+    }
+    if temperature_order < place {
+        return 0;
+    }
+    signed8(body, 28 + 8 * (row * (temperature_order + 1) + place))
+}
