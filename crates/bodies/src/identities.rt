@@ -1,8 +1,13 @@
-use super::{refused, Identity};
-use numbers::fields::{number1, number2, number4, signed4};
+use super::Identity;
+use super::outside;
+use super::refused;
+use numbers::fields::number1;
+use numbers::fields::number2;
+use numbers::fields::number4;
+use numbers::fields::signed4;
 use refusals::Verdict;
-
 ghost use mathlib.Core.Path.{_≡_};
+ghost use mathlib.Core.Bool.{cond};
 ghost use Prim.Native.Nat.{_≤_};
 ghost use Rattle.bodies.specs.Identity.{identityOf, identityVerdict, leapYear, daysIn};
 
@@ -28,21 +33,24 @@ pub fn identity_verdict(body: &[u8]) -> Verdict
         return refused(11);
     }
     let year = number2(body, 4);
-    if year < 1980 || 2099 < year {
+    if outside(1980, year as u64, 2099) {
         return refused(11);
     }
     let month = number1(body, 6);
-    if month < 1 || 12 < month {
+    if outside(1, month as u64, 12) {
         return refused(11);
     }
-    let day = number1(body, 7);
-    if day < 1 || days_in(year, month) < day {
+    if outside(1, number1(body, 7) as u64, days_in(year, month) as u64) {
         return refused(11);
     }
-    if signed4(body, 12) < signed4(body, 8) {
+    let tmin = signed4(body, 8);
+    let tmax = signed4(body, 12);
+    if tmax < tmin {
         return refused(11);
     }
-    if signed4(body, 20) < signed4(body, 16) {
+    let pmin = signed4(body, 16);
+    let pmax = signed4(body, 20);
+    if pmax < pmin {
         return refused(11);
     }
     Verdict::Accepted
@@ -54,11 +62,16 @@ fn leap_year(year: u16) -> bool
     year % 4 == 0 && (year % 100 != 0 || year % 400 == 0)
 }
 
+fn february(year: u16) -> u8
+    ensures { λ r. ⌜ r ≡ cond (leapYear year) 29 28 ⌝ }
+{
+    if leap_year(year) { 29 } else { 28 }
+}
+
 fn days_in(year: u16, month: u8) -> u8
     requires { ⌜ (1 ≤ month) × (month ≤ 12) ⌝ }
     ensures { λ r. ⌜ r ≡ daysIn year month ⌝ }
 {
-    let february: u8 = if leap_year(year) { 29 } else { 28 };
-    let lengths: [u8; 12] = [31, february, 31, 30, 31, 30, 31, 31, 30, 31, 30, 31];
+    let lengths: [u8; 12] = [31, february(year), 31, 30, 31, 30, 31, 31, 30, 31, 30, 31];
     lengths[(month - 1) as usize]
 }

@@ -1,19 +1,25 @@
+use super::outside;
 use super::refused;
 use refusals::Verdict;
-
 ghost use mathlib.Core.Path.{_≡_};
-ghost use Rattle.bodies.specs.Note.{noteVerdict};
+ghost use Rattle.refusals.specs.Refusals.{fieldsVerdict};
+ghost use Rattle.bodies.specs.Note.{characterFields, noteVerdict};
 
 pub fn note_verdict(body: &[u8]) -> Verdict
     ensures { λ r. ⌜ r ≡ noteVerdict (now (body .entry)) ⌝ }
 {
-    if body.len() < 1 || 64 < body.len() {
+    if outside(1, body.len() as u64, 64) {
         return refused(16);
     }
+    characters_verdict(body)
+}
+
+fn characters_verdict(body: &[u8]) -> Verdict
+    ensures { λ r. ⌜ r ≡ fieldsVerdict 16 (characterFields (now (body .entry))) ⌝ }
+{
     let mut i: usize = 0;
     while i < body.len() {
-        let character = body[i];
-        if character < 32 || 126 < character {
+        if outside(32, body[i] as u64, 126) {
             return refused(16);
         }
         i += 1;

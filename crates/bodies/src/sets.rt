@@ -1,11 +1,19 @@
-use super::{refused, Prescale, Set};
-use numbers::fields::{number1, number4, number8, signed8};
+use super::Prescale;
+use super::Set;
+use super::beyond;
+use super::outside;
+use super::refused;
+use numbers::fields::number1;
+use numbers::fields::number4;
+use numbers::fields::number8;
+use numbers::fields::signed8;
 use refusals::Verdict;
-
 ghost use mathlib.Core.Path.{_≡_};
+ghost use mathlib.Core.Bool.{not};
 ghost use Prim.Native.Nat.{_≤_, _<_};
 ghost use Rattle.refusals.specs.Refusals.{fieldsVerdict};
-ghost use Rattle.bodies.specs.Set.{setOf, setVerdict, multiplierRight, offsetRight, coefficientFields, pressureOrder, temperatureOrder, gridPlace, rowFrom, gridOf};
+ghost use Rattle.bodies.specs.SetLaws.{Gridded};
+ghost use Rattle.bodies.specs.Set.{setOf, setVerdict, multiplierRight, offsetRight, coefficientFields, gridPlace, rowFrom, gridOf};
 
 pub fn read_set(body: &[u8]) -> Set
     ensures { λ r. ⌜ r ≡ setOf (now (body .entry)) ⌝ }
@@ -47,37 +55,37 @@ pub fn set_verdict(body: &[u8], number: u32) -> Verdict
     if body.len() != 28 + 8 * count {
         return refused(number);
     }
-    if !multiplier_right(pressure_order, number4(body, 4)) {
+    if multiplier_wrong(pressure_order, number4(body, 4)) {
         return refused(number);
     }
-    if !offset_right(pressure_order, number8(body, 8)) {
+    if offset_wrong(pressure_order, number8(body, 8)) {
         return refused(number);
     }
-    if !multiplier_right(temperature_order, number4(body, 16)) {
+    if multiplier_wrong(temperature_order, number4(body, 16)) {
         return refused(number);
     }
-    if !offset_right(temperature_order, number8(body, 20)) {
+    if offset_wrong(temperature_order, number8(body, 20)) {
         return refused(number);
     }
     coefficients_verdict(body, count, number)
 }
 
-fn multiplier_right(order: u8, multiplier: u32) -> bool
-    ensures { λ r. ⌜ r ≡ multiplierRight order multiplier ⌝ }
+fn multiplier_wrong(order: u8, multiplier: u32) -> bool
+    ensures { λ r. ⌜ r ≡ not (multiplierRight order multiplier) ⌝ }
 {
     if order == 0 {
-        return multiplier == 0;
+        return multiplier != 0;
     }
-    1 <= multiplier && multiplier <= 1073741824
+    outside(1, multiplier as u64, 1073741824)
 }
 
-fn offset_right(order: u8, offset: u64) -> bool
-    ensures { λ r. ⌜ r ≡ offsetRight order offset ⌝ }
+fn offset_wrong(order: u8, offset: u64) -> bool
+    ensures { λ r. ⌜ r ≡ not (offsetRight order offset) ⌝ }
 {
     if order == 0 {
-        return offset == 0;
+        return offset != 0;
     }
-    offset <= 6553600000
+    6553600000 < offset
 }
 
 fn coefficients_verdict(body: &[u8], count: usize, number: u32) -> Verdict
@@ -86,8 +94,7 @@ fn coefficients_verdict(body: &[u8], count: usize, number: u32) -> Verdict
 {
     let mut i: usize = 0;
     while i < count {
-        let coefficient = signed8(body, 28 + 8 * i);
-        if coefficient < -17179869184 || 17179869184 < coefficient {
+        if beyond(signed8(body, 28 + 8 * i), 17179869184) {
             return refused(number);
         }
         i += 1;
@@ -98,40 +105,41 @@ fn coefficients_verdict(body: &[u8], count: usize, number: u32) -> Verdict
 pub fn read_grid(body: &[u8]) -> [[i64; 5]; 5]
     ensures { λ r. ⌜ r ≡ gridOf (now (body .entry)) ⌝ }
 {
-    let pressure_order = number1(body, 2) as usize;
-    let temperature_order = number1(body, 3) as usize;
+    let rows = number1(body, 2) as usize + 1;
+    let places = number1(body, 3) as usize + 1;
     let mut grid = [[0i64; 5]; 5];
     let mut row: usize = 0;
     while row < 5 {
-        let coefficients = read_row(body, pressure_order, temperature_order, row);
+        let coefficients = read_row(body, rows, places, row);
         grid[row] = coefficients;
         row += 1;
     }
     grid
 }
 
-fn read_row(body: &[u8], pressure_order: usize, temperature_order: usize, row: usize) -> [i64; 5]
-    requires { ⌜ (pressure_order ≡ pressureOrder (now body)) × (temperature_order ≡ temperatureOrder (now body)) × (temperature_order < 256) × (row < 5) ⌝ }
+fn read_row(body: &[u8], rows: usize, places: usize, row: usize) -> [i64; 5]
+    requires { ⌜ Gridded (now body) rows places row 0 ⌝ }
     ensures { λ r. ⌜ r ≡ rowFrom (now (body .entry)) row 5 0 ⌝ }
 {
     let mut coefficients = [0i64; 5];
     let mut place: usize = 0;
     while place < 5 {
-        coefficients[place] = grid_place(body, pressure_order, temperature_order, row, place);
+        let coefficient = read_place(body, rows, places, row, place);
+        coefficients[place] = coefficient;
         place += 1;
     }
     coefficients
 }
 
-fn grid_place(body: &[u8], pressure_order: usize, temperature_order: usize, row: usize, place: usize) -> i64
-    requires { ⌜ (pressure_order ≡ pressureOrder (now body)) × (temperature_order ≡ temperatureOrder (now body)) × (temperature_order < 256) × (row < 5) × (place < 5) ⌝ }
+fn read_place(body: &[u8], rows: usize, places: usize, row: usize, place: usize) -> i64
+    requires { ⌜ Gridded (now body) rows places row place ⌝ }
     ensures { λ r. ⌜ r ≡ gridPlace (now (body .entry)) row place ⌝ }
 {
-    if pressure_order < row {
+    if rows <= row {
         return 0;
     }
-    if temperature_order < place {
+    if places <= place {
         return 0;
     }
-    signed8(body, 28 + 8 * (row * (temperature_order + 1) + place))
+    signed8(body, 28 + 8 * (row * places + place))
 }

@@ -1,7 +1,11 @@
-use super::{refused, Trim};
-use numbers::fields::{number1, number4, signed8};
+use super::Trim;
+use super::beyond;
+use super::outside;
+use super::refused;
+use numbers::fields::number1;
+use numbers::fields::number4;
+use numbers::fields::signed8;
 use refusals::Verdict;
-
 ghost use mathlib.Core.Path.{_≡_};
 ghost use Rattle.bodies.specs.Trim.{trimOf, trimVerdict};
 
@@ -21,8 +25,7 @@ pub fn trim_verdict(body: &[u8]) -> Verdict
     if body.len() != 16 {
         return refused(15);
     }
-    let unit = number1(body, 0);
-    if unit < 1 || 3 < unit {
+    if outside(1, number1(body, 0) as u64, 3) {
         return refused(15);
     }
     if number1(body, 1) != 0 {
@@ -34,12 +37,10 @@ pub fn trim_verdict(body: &[u8]) -> Verdict
     if number1(body, 3) != 0 {
         return refused(15);
     }
-    let span = number4(body, 4);
-    if span < 1 || 2147483648 < span {
+    if outside(1, number4(body, 4) as u64, 2147483648) {
         return refused(15);
     }
-    let zero = signed8(body, 8);
-    if zero < -1099511627776 || 1099511627776 < zero {
+    if beyond(signed8(body, 8), 1099511627776) {
         return refused(15);
     }
     Verdict::Accepted

@@ -1,3 +1,4 @@
 pub mod Paper
 pub mod Refusals
 pub mod RefusalsLaws
+pub mod FieldsVerdictLaws

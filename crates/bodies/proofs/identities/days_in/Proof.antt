@@ -3,10 +3,10 @@ use Rattle.bodies.proofs.identities.days_in.Statement.{statement}
 use Rattle.bodies.proofs.identities.days_in.Tie as tie
 use Rattle.bodies.proofs.identities.days_in.Reads as reads
 use Rattle.bodies.proofs.identities.days_in.Lts as lts
-use Rattle.bodies.proofs.identities.leap_year.Reads as leap-year-reads
+use Rattle.bodies.proofs.identities.february.Reads as february-reads
 
-leap-year-requires : tie.Need-leap-year-requires
-leap-year-requires c κs = search needs
+february-requires : tie.Need-february-requires
+february-requires c κs = search needs
 
 sub-result : tie.Need-sub-result
 sub-result c = search needs
@@ -22,4 +22,4 @@ returns c = ?
 
 pub days-in-spec : {M : Type 1} → statement M
 days-in-spec =
-    tie.close (tie.spec leap-year-requires sub-result cast-result array-read-result returns)
+    tie.close (tie.spec february-requires sub-result cast-result array-read-result returns)

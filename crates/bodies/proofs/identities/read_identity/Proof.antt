@@ -1,3 +1,5 @@
+use Rattle.bodies.specs.Identity.{identityOf}
+use Rattle.bodies.specs.TestsLaws.{read-as}
 use borrow.Author.Needs.{needs}
 use Rattle.bodies.proofs.identities.read_identity.Statement.{statement}
 use Rattle.bodies.proofs.identities.read_identity.Tie as tie
@@ -33,7 +35,8 @@ signed4-requires-4 : tie.Need-signed4-requires-4
 signed4-requires-4 c κs = search needs
 
 returns : tie.Need-returns
-returns c = ?
+unfolding identityOf
+returns c = search (needs, read-as)
 
 pub read-identity-spec : {M : Type 1} → statement M
 read-identity-spec =

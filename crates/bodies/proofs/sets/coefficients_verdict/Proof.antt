@@ -2,6 +2,7 @@ use Rattle.bodies.proofs.sets.coefficients_verdict.Statement.{statement
 use Rattle.bodies.proofs.sets.coefficients_verdict.Tie as tie
 use Rattle.bodies.proofs.sets.coefficients_verdict.Reads as reads
 use Rattle.bodies.proofs.sets.coefficients_verdict.Lts as lts
+use Rattle.bodies.proofs.beyond.Reads as beyond-reads
 use Rattle.bodies.proofs.refused.Reads as refused-reads
 use Rattle.numbers.proofs.fields.signed8.Reads as signed8-reads
 
@@ -22,6 +23,9 @@ add-signed8 c = ?
 
 signed8-requires : tie.Need-signed8-requires Inv-loop μ-loop
 signed8-requires c κs = ?
+
+beyond-requires : tie.Need-beyond-requires Inv-loop μ-loop
+beyond-requires c κs = ?
 
 refused-requires : tie.Need-refused-requires Inv-loop μ-loop
 refused-requires c κs = ?
@@ -51,6 +55,7 @@ coefficients-verdict-spec =
     mul-signed8
     add-signed8
     signed8-requires
+    beyond-requires
     refused-requires
     returns
     add-i

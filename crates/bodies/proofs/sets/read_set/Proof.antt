@@ -1,3 +1,5 @@
+use Rattle.bodies.specs.Set.{setOf}
+use Rattle.bodies.specs.TestsLaws.{read-as}
 use borrow.Author.Needs.{needs}
 use Rattle.bodies.proofs.sets.read_set.Statement.{statement}
 use Rattle.bodies.proofs.sets.read_set.Tie as tie
@@ -26,7 +28,8 @@ number8-requires-2 : tie.Need-number8-requires-2
 number8-requires-2 c κs = search needs
 
 returns : tie.Need-returns
-returns c = ?
+unfolding setOf
+returns c = search (needs, read-as)
 
 pub read-set-spec : {M : Type 1} → statement M
 read-set-spec =

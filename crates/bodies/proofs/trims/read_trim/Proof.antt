@@ -1,3 +1,5 @@
+use Rattle.bodies.specs.Trim.{trimOf}
+use Rattle.bodies.specs.TestsLaws.{read-as}
 use borrow.Author.Needs.{needs}
 use Rattle.bodies.proofs.trims.read_trim.Statement.{statement}
 use Rattle.bodies.proofs.trims.read_trim.Tie as tie
@@ -17,7 +19,8 @@ signed8-requires : tie.Need-signed8-requires
 signed8-requires c κs = search needs
 
 returns : tie.Need-returns
-returns c = ?
+unfolding trimOf
+returns c = search (needs, read-as)
 
 pub read-trim-spec : {M : Type 1} → statement M
 read-trim-spec = tie.close (tie.spec number1-requires number4-requires signed8-requires returns)

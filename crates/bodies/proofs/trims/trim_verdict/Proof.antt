@@ -1,27 +1,42 @@
 use borrow.Author.Needs.{needs}
+use Rattle.refusals.specs.FieldsVerdictLaws.{past-right, stop-at-wrong, all-right, judged}
+use Rattle.bodies.specs.Trim.{trimFields}
+use Rattle.bodies.specs.TestsLaws.{equal, unequal, same, other, outside-told, inside-told, beyond-told, within-told, read-as}
 use Rattle.bodies.proofs.trims.trim_verdict.Statement.{statement}
 use Rattle.bodies.proofs.trims.trim_verdict.Tie as tie
 use Rattle.bodies.proofs.trims.trim_verdict.Reads as reads
 use Rattle.bodies.proofs.trims.trim_verdict.Lts as lts
+use Rattle.bodies.proofs.outside.Reads as outside-reads
 use Rattle.bodies.proofs.refused.Reads as refused-reads
+use Rattle.bodies.proofs.beyond.Reads as beyond-reads
 use Rattle.numbers.proofs.fields.number1.Reads as number1-reads
 use Rattle.numbers.proofs.fields.number4.Reads as number4-reads
 use Rattle.numbers.proofs.fields.signed8.Reads as signed8-reads
+
+ruleset laws = (needs, equal, unequal, same, other, outside-told, inside-told, beyond-told, within-told, read-as, past-right, stop-at-wrong, all-right)
 
 refused-requires : tie.Need-refused-requires
 refused-requires c κs = search needs
 
 returns : tie.Need-returns
-returns c = ?
+unfolding trimFields
+returns c = judged _ _ _ (search laws depth 12)
 
 number1-requires : tie.Need-number1-requires
 number1-requires c κs = search needs
+
+cast-outside : tie.Need-cast-outside
+cast-outside c = search needs
+
+outside-requires : tie.Need-outside-requires
+outside-requires c κs = search needs
 
 refused-requires-2 : tie.Need-refused-requires-2
 refused-requires-2 c κs = search needs
 
 returns-2 : tie.Need-returns-2
-returns-2 c = ?
+unfolding trimFields
+returns-2 c = judged _ _ _ (search laws depth 12)
 
 number1-requires-2 : tie.Need-number1-requires-2
 number1-requires-2 c κs = search needs
@@ -30,7 +45,8 @@ refused-requires-3 : tie.Need-refused-requires-3
 refused-requires-3 c κs = search needs
 
 returns-3 : tie.Need-returns-3
-returns-3 c = ?
+unfolding trimFields
+returns-3 c = judged _ _ _ (search laws depth 12)
 
 number1-requires-3 : tie.Need-number1-requires-3
 number1-requires-3 c κs = search needs
@@ -39,7 +55,8 @@ refused-requires-4 : tie.Need-refused-requires-4
 refused-requires-4 c κs = search needs
 
 returns-4 : tie.Need-returns-4
-returns-4 c = ?
+unfolding trimFields
+returns-4 c = judged _ _ _ (search laws depth 12)
 
 number1-requires-4 : tie.Need-number1-requires-4
 number1-requires-4 c κs = search needs
@@ -48,28 +65,41 @@ refused-requires-5 : tie.Need-refused-requires-5
 refused-requires-5 c κs = search needs
 
 returns-5 : tie.Need-returns-5
-returns-5 c = ?
+unfolding trimFields
+returns-5 c = judged _ _ _ (search laws depth 12)
 
 number4-requires : tie.Need-number4-requires
 number4-requires c κs = search needs
+
+cast-outside-2 : tie.Need-cast-outside-2
+cast-outside-2 c = search needs
+
+outside-requires-2 : tie.Need-outside-requires-2
+outside-requires-2 c κs = search needs
 
 refused-requires-6 : tie.Need-refused-requires-6
 refused-requires-6 c κs = search needs
 
 returns-6 : tie.Need-returns-6
-returns-6 c = ?
+unfolding trimFields
+returns-6 c = judged _ _ _ (search laws depth 12)
 
 signed8-requires : tie.Need-signed8-requires
 signed8-requires c κs = search needs
+
+beyond-requires : tie.Need-beyond-requires
+beyond-requires c κs = search needs
 
 refused-requires-7 : tie.Need-refused-requires-7
 refused-requires-7 c κs = search needs
 
 returns-7 : tie.Need-returns-7
-returns-7 c = ?
+unfolding trimFields
+returns-7 c = judged _ _ _ (search laws depth 12)
 
 returns-8 : tie.Need-returns-8
-returns-8 c = ?
+unfolding trimFields
+returns-8 c = judged _ _ _ (search laws depth 12)
 
 pub trim-verdict-spec : {M : Type 1} → statement M
 trim-verdict-spec =
@@ -78,6 +108,8 @@ trim-verdict-spec =
     refused-requires
     returns
     number1-requires
+    cast-outside
+    outside-requires
     refused-requires-2
     returns-2
     number1-requires-2
@@ -90,9 +122,12 @@ trim-verdict-spec =
     refused-requires-5
     returns-5
     number4-requires
+    cast-outside-2
+    outside-requires-2
     refused-requires-6
     returns-6
     signed8-requires
+    beyond-requires
     refused-requires-7
     returns-7
     returns-8)

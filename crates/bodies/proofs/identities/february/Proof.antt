@@ -1,0 +1,18 @@
+use borrow.Author.Needs.{needs}
+use Rattle.bodies.proofs.identities.february.Statement.{statement}
+use Rattle.bodies.proofs.identities.february.Tie as tie
+use Rattle.bodies.proofs.identities.february.Reads as reads
+use Rattle.bodies.proofs.identities.february.Lts as lts
+use Rattle.bodies.proofs.identities.leap_year.Reads as leap-year-reads
+
+leap-year-requires : tie.Need-leap-year-requires
+leap-year-requires c κs = search needs
+
+returns : tie.Need-returns
+returns c = ?
+
+returns-2 : tie.Need-returns-2
+returns-2 c = ?
+
+pub february-spec : {M : Type 1} → statement M
+february-spec = tie.close (tie.spec leap-year-requires returns returns-2)
