@@ -10,9 +10,9 @@ use numbers::fields::signed8;
 use refusals::Verdict;
 ghost use mathlib.Core.Path.{_≡_};
 ghost use mathlib.Core.Bool.{not};
-ghost use Prim.Native.Nat.{_≤_, _<_};
+ghost use Prim.Native.Nat.{_+_, _*_, _≤_, _<_};
 ghost use Rattle.refusals.specs.Refusals.{fieldsVerdict};
-ghost use Rattle.bodies.specs.SetLaws.{Gridded};
+ghost use Rattle.bodies.specs.GridLaws.{Gridded};
 ghost use Rattle.bodies.specs.Set.{setOf, setVerdict, multiplierRight, offsetRight, coefficientFields, gridPlace, rowFrom, gridOf};
 
 pub fn read_set(body: &[u8]) -> Set
@@ -51,7 +51,7 @@ pub fn set_verdict(body: &[u8], number: u32) -> Verdict
     if 4 < temperature_order {
         return refused(number);
     }
-    let count = (pressure_order as usize + 1) * (temperature_order as usize + 1);
+    let count = coefficient_count(pressure_order, temperature_order);
     if body.len() != 28 + 8 * count {
         return refused(number);
     }
@@ -68,6 +68,13 @@ pub fn set_verdict(body: &[u8], number: u32) -> Verdict
         return refused(number);
     }
     coefficients_verdict(body, count, number)
+}
+
+fn coefficient_count(pressure: u8, temperature: u8) -> usize
+    requires { ⌜ (pressure ≤ 4) × (temperature ≤ 4) ⌝ }
+    ensures { λ r. ⌜ (r ≡ (pressure + 1) * (temperature + 1)) × (r ≤ 25) ⌝ }
+{
+    (pressure as usize + 1) * (temperature as usize + 1)
 }
 
 fn multiplier_wrong(order: u8, multiplier: u32) -> bool
@@ -118,7 +125,7 @@ pub fn read_grid(body: &[u8]) -> [[i64; 5]; 5]
 }
 
 fn read_row(body: &[u8], rows: usize, places: usize, row: usize) -> [i64; 5]
-    requires { ⌜ Gridded (now body) rows places row 0 ⌝ }
+    requires { ⌜ Gridded (now body) rows places row ⌝ }
     ensures { λ r. ⌜ r ≡ rowFrom (now (body .entry)) row 5 0 ⌝ }
 {
     let mut coefficients = [0i64; 5];
@@ -132,7 +139,7 @@ fn read_row(body: &[u8], rows: usize, places: usize, row: usize) -> [i64; 5]
 }
 
 fn read_place(body: &[u8], rows: usize, places: usize, row: usize, place: usize) -> i64
-    requires { ⌜ Gridded (now body) rows places row place ⌝ }
+    requires { ⌜ (Gridded (now body) rows places row) × (place < 5) ⌝ }
     ensures { λ r. ⌜ r ≡ gridPlace (now (body .entry)) row place ⌝ }
 {
     if rows <= row {

@@ -1,26 +1,28 @@
--- What a test on signed numbers says.
-use mathlib.Core.Path.{_≡_, refl, sym, subst}
-use mathlib.Core.Bool.{true, false}
+-- What a test on numbers says.
+use mathlib.Core.Path.{_≡_, refl, sym, ap, _∙_, subst}
+use mathlib.Core.Bool.{true, false, not}
+use Prim.Native.Nat.{ℕ, _≤_, _<_}
 use native.Mathlib.Omega.{arith}
-use borrow.Author.Tests.{ltb-true, ltb-false, le-leb, lt-leb}
-use lib.Dec.{T}
+use borrow.Author.Tests.{ltb-true, lt-ltb, le-ltb, le-leb, lt-leb}
+use lib.Dec.{T, leb, ltb}
 use lib.IntN.{ℤ, pos, negsuc}
 use lib.Signed.{mag, ltZ, leZ}
+use Rattle.laws.specs.Cases.{split}
 
--- the test the other way round
-pub less-not-le : (a b : ℤ) → ltZ b a ≡ true → leZ a b ≡ false
-less-not-le (pos a) (pos b) e = lt-leb a b (ltb-true b a e)
-less-not-le (pos a) (negsuc b) e = refl
-less-not-le (negsuc a) (pos b) e = sym e
-less-not-le (negsuc a) (negsuc b) e = lt-leb b a (ltb-true a b e)
+-- less is not at most the other way round
+pub less-otherwise : (a b : ℕ) → ltb b a ≡ not (leb a b)
+less-otherwise a b =
+    split a b
+    (λ (h : a ≤ b). le-ltb b a h ∙ sym (ap not (le-leb a b h)))
+    (λ (h : b < a). lt-ltb b a h ∙ sym (ap not (lt-leb a b h)))
 
-pub not-less-le : (a b : ℤ) → ltZ b a ≡ false → leZ a b ≡ true
-not-less-le (pos a) (pos b) e = le-leb a b (ltb-false b a e)
-not-less-le (pos a) (negsuc b) e = sym e
-not-less-le (negsuc a) (pos b) e = refl
-not-less-le (negsuc a) (negsuc b) e = le-leb b a (ltb-false a b e)
+pub less-otherwiseℤ : (a b : ℤ) → ltZ b a ≡ not (leZ a b)
+less-otherwiseℤ (pos a) (pos b) = less-otherwise a b
+less-otherwiseℤ (pos a) (negsuc b) = refl
+less-otherwiseℤ (negsuc a) (pos b) = refl
+less-otherwiseℤ (negsuc a) (negsuc b) = less-otherwise b a
 
--- a number by its sign
+-- a signed number by its sign
 pub below-zero : (z : ℤ) → ltZ z (pos 0) ≡ true → z ≡ negsuc (mag z)
 below-zero (pos a) e = let h = ltb-true a 0 e in absurd (omega arith)
 below-zero (negsuc a) e = refl

@@ -1,22 +1,24 @@
+use borrow.Author.Needs.{needs}
+use Rattle.bodies.specs.TestsLaws.{less-fits, less-natural, beyond-below, natural, beyond-above}
 use Rattle.bodies.proofs.beyond.Statement.{statement}
 use Rattle.bodies.proofs.beyond.Tie as tie
-use Rattle.bodies.proofs.beyond.Reads as reads
-use Rattle.bodies.proofs.beyond.Lts as lts
+
+ruleset laws = (needs, less-fits, less-natural, beyond-below, natural, beyond-above)
 
 sub-result : tie.Need-sub-result
-sub-result c = ?
+sub-result c = search laws
 
 cast-result : tie.Need-cast-result
-cast-result c = ?
+cast-result c = search laws
 
 returns : tie.Need-returns
-returns c = ?
+returns c = search laws
 
 cast-result-2 : tie.Need-cast-result-2
-cast-result-2 c = ?
+cast-result-2 c = search laws
 
 returns-2 : tie.Need-returns-2
-returns-2 c = ?
+returns-2 c = search laws
 
 pub beyond-spec : {M : Type 1} → statement M
 beyond-spec = tie.close (tie.spec sub-result cast-result returns cast-result-2 returns-2)

@@ -1,9 +1,7 @@
 use borrow.Author.Needs.{needs}
+use Rattle.bodies.specs.IdentityLaws.{days-listed}
 use Rattle.bodies.proofs.identities.days_in.Statement.{statement}
 use Rattle.bodies.proofs.identities.days_in.Tie as tie
-use Rattle.bodies.proofs.identities.days_in.Reads as reads
-use Rattle.bodies.proofs.identities.days_in.Lts as lts
-use Rattle.bodies.proofs.identities.february.Reads as february-reads
 
 february-requires : tie.Need-february-requires
 february-requires c κs = search needs
@@ -18,7 +16,7 @@ array-read-result : tie.Need-array-read-result
 array-read-result c = search needs
 
 returns : tie.Need-returns
-returns c = ?
+returns c = search (needs, days-listed)
 
 pub days-in-spec : {M : Type 1} → statement M
 days-in-spec =

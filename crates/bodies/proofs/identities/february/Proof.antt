@@ -1,9 +1,6 @@
 use borrow.Author.Needs.{needs}
 use Rattle.bodies.proofs.identities.february.Statement.{statement}
 use Rattle.bodies.proofs.identities.february.Tie as tie
-use Rattle.bodies.proofs.identities.february.Reads as reads
-use Rattle.bodies.proofs.identities.february.Lts as lts
-use Rattle.bodies.proofs.identities.leap_year.Reads as leap-year-reads
 
 leap-year-requires : tie.Need-leap-year-requires
 leap-year-requires c κs = search needs

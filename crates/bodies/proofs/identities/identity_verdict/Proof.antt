@@ -1,26 +1,19 @@
+use borrow.Author.Needs.{needs}
 use Rattle.refusals.specs.FieldsVerdictLaws.{past-right, stop-at-wrong, all-right, judged}
 use Rattle.bodies.specs.Identity.{identityFields}
-use Rattle.bodies.specs.TestsLaws.{equal, unequal, outside-told, inside-told, read-as, above-told, not-above-told}
-use borrow.Author.Needs.{needs}
+use Rattle.bodies.specs.IdentityLaws.{days-of}
+use Rattle.bodies.specs.TestsLaws.{same, other, outside-told, read-as, above-told, within-bounds}
 use Rattle.bodies.proofs.identities.identity_verdict.Statement.{statement}
 use Rattle.bodies.proofs.identities.identity_verdict.Tie as tie
-use Rattle.bodies.proofs.identities.identity_verdict.Reads as reads
-use Rattle.bodies.proofs.identities.identity_verdict.Lts as lts
-use Rattle.bodies.proofs.identities.days_in.Reads as days-in-reads
-use Rattle.bodies.proofs.outside.Reads as outside-reads
-use Rattle.bodies.proofs.refused.Reads as refused-reads
-use Rattle.numbers.proofs.fields.number1.Reads as number1-reads
-use Rattle.numbers.proofs.fields.number2.Reads as number2-reads
-use Rattle.numbers.proofs.fields.signed4.Reads as signed4-reads
 
-ruleset laws = (needs, equal, unequal, outside-told, inside-told, read-as, above-told, not-above-told, past-right, stop-at-wrong, all-right)
+ruleset laws = (needs, same, other, outside-told, read-as, above-told, days-of, past-right, stop-at-wrong, all-right)
 
 refused-requires : tie.Need-refused-requires
 refused-requires c κs = search needs
 
 returns : tie.Need-returns
 unfolding identityFields
-returns c = judged _ _ _ (search laws depth 12)
+returns c = judged _ _ _ (search laws depth 16)
 
 number2-requires : tie.Need-number2-requires
 number2-requires c κs = search needs
@@ -36,7 +29,7 @@ refused-requires-2 c κs = search needs
 
 returns-2 : tie.Need-returns-2
 unfolding identityFields
-returns-2 c = judged _ _ _ (search laws depth 12)
+returns-2 c = judged _ _ _ (search laws depth 16)
 
 number1-requires : tie.Need-number1-requires
 number1-requires c κs = search needs
@@ -52,7 +45,7 @@ refused-requires-3 c κs = search needs
 
 returns-3 : tie.Need-returns-3
 unfolding identityFields
-returns-3 c = judged _ _ _ (search laws depth 12)
+returns-3 c = judged _ _ _ (search laws depth 16)
 
 number1-requires-2 : tie.Need-number1-requires-2
 number1-requires-2 c κs = search needs
@@ -61,7 +54,7 @@ cast-outside-3 : tie.Need-cast-outside-3
 cast-outside-3 c = search needs
 
 days-in-requires : tie.Need-days-in-requires
-days-in-requires c κs = ?
+days-in-requires c κs = search (needs, within-bounds)
 
 cast-outside-4 : tie.Need-cast-outside-4
 cast-outside-4 c = search needs
@@ -74,7 +67,7 @@ refused-requires-4 c κs = search needs
 
 returns-4 : tie.Need-returns-4
 unfolding identityFields
-returns-4 c = judged _ _ _ (search laws depth 12)
+returns-4 c = judged _ _ _ (search laws depth 16)
 
 signed4-requires : tie.Need-signed4-requires
 signed4-requires c κs = search needs
@@ -87,7 +80,7 @@ refused-requires-5 c κs = search needs
 
 returns-5 : tie.Need-returns-5
 unfolding identityFields
-returns-5 c = judged _ _ _ (search laws depth 12)
+returns-5 c = judged _ _ _ (search laws depth 16)
 
 signed4-requires-3 : tie.Need-signed4-requires-3
 signed4-requires-3 c κs = search needs
@@ -100,11 +93,11 @@ refused-requires-6 c κs = search needs
 
 returns-6 : tie.Need-returns-6
 unfolding identityFields
-returns-6 c = judged _ _ _ (search laws depth 12)
+returns-6 c = judged _ _ _ (search laws depth 16)
 
 returns-7 : tie.Need-returns-7
 unfolding identityFields
-returns-7 c = judged _ _ _ (search laws depth 12)
+returns-7 c = judged _ _ _ (search laws depth 16)
 
 pub identity-verdict-spec : {M : Type 1} → statement M
 identity-verdict-spec =

@@ -1,45 +1,49 @@
+use Prim.Native.Nat.{_-_}
+use borrow.Author.Needs.{needs}
+use lib.ListN.{length}
+use Rattle.refusals.specs.FieldsVerdictLaws.{judged}
+use Rattle.bodies.specs.TestsLaws.{outside-told}
+use Rattle.bodies.specs.NoteLaws.{Characters, characters-first, characters-more, characters-wrong, characters-end}
 use Rattle.bodies.proofs.notes.characters_verdict.Statement.{statement}
 use Rattle.bodies.proofs.notes.characters_verdict.Tie as tie
-use Rattle.bodies.proofs.notes.characters_verdict.Reads as reads
-use Rattle.bodies.proofs.notes.characters_verdict.Lts as lts
-use Rattle.bodies.proofs.outside.Reads as outside-reads
-use Rattle.bodies.proofs.refused.Reads as refused-reads
+
+ruleset laws = (needs, outside-told, characters-first, characters-more, characters-wrong, characters-end)
 
 abbrev Inv-loop : tie.InvT-loop
-Inv-loop body i₀ i = ?
+Inv-loop body i₀ i = Characters body i
 
 abbrev μ-loop : tie.MeasureT-loop
-μ-loop body i₀ i = ?
+μ-loop body i₀ i = length body - i
 
 loop-holds : tie.Need-loop-holds Inv-loop μ-loop
-loop-holds c = ?
+loop-holds c = search laws
 
 shared-slice-read-outside : tie.Need-shared-slice-read-outside Inv-loop μ-loop
-shared-slice-read-outside c = ?
+shared-slice-read-outside c = search laws
 
 cast-outside : tie.Need-cast-outside Inv-loop μ-loop
-cast-outside c = ?
+cast-outside c = search laws
 
 outside-requires : tie.Need-outside-requires Inv-loop μ-loop
-outside-requires c κs = ?
+outside-requires c κs = search laws
 
 refused-requires : tie.Need-refused-requires Inv-loop μ-loop
-refused-requires c κs = ?
+refused-requires c κs = search laws
 
 returns : tie.Need-returns Inv-loop μ-loop
-returns c = ?
+returns c = judged _ _ _ (search laws)
 
 add-i : tie.Need-add-i Inv-loop μ-loop
-add-i c = ?
+add-i c = search laws
 
 loop-less : tie.Need-loop-less Inv-loop μ-loop
-loop-less c = ?
+loop-less c = search laws
 
 loop-again : tie.Need-loop-again Inv-loop μ-loop
-loop-again c = ?
+loop-again c = search laws
 
 returns-2 : tie.Need-returns-2 Inv-loop μ-loop
-returns-2 c = ?
+returns-2 c = judged _ _ _ (search laws)
 
 pub characters-verdict-spec : {M : Type 1} → statement M
 characters-verdict-spec =

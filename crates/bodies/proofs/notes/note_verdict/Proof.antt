@@ -1,11 +1,11 @@
 use borrow.Author.Needs.{needs}
+use Rattle.refusals.specs.FieldsVerdictLaws.{Judged, past-right, stop-at-wrong, judged}
+use Rattle.bodies.specs.Note.{noteFields}
+use Rattle.bodies.specs.TestsLaws.{outside-told}
 use Rattle.bodies.proofs.notes.note_verdict.Statement.{statement}
 use Rattle.bodies.proofs.notes.note_verdict.Tie as tie
-use Rattle.bodies.proofs.notes.note_verdict.Reads as reads
-use Rattle.bodies.proofs.notes.note_verdict.Lts as lts
-use Rattle.bodies.proofs.notes.characters_verdict.Reads as characters-verdict-reads
-use Rattle.bodies.proofs.outside.Reads as outside-reads
-use Rattle.bodies.proofs.refused.Reads as refused-reads
+
+ruleset laws = (needs, outside-told, past-right, stop-at-wrong)
 
 outside-requires : tie.Need-outside-requires
 outside-requires c κs = search needs
@@ -14,13 +14,15 @@ refused-requires : tie.Need-refused-requires
 refused-requires c κs = search needs
 
 returns : tie.Need-returns
-returns c = ?
+unfolding noteFields
+returns c = judged _ _ _ (search laws)
 
 characters-verdict-requires : tie.Need-characters-verdict-requires
 characters-verdict-requires c κs = search needs
 
 returns-2 : tie.Need-returns-2
-returns-2 c = ?
+unfolding noteFields
+returns-2 c = judged _ _ _ (search laws)
 
 pub note-verdict-spec : {M : Type 1} → statement M
 note-verdict-spec =

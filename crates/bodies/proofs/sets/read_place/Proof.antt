@@ -1,33 +1,35 @@
 use borrow.Author.Needs.{needs}
+use native.Mathlib.Omega.{arith}
+use Rattle.bodies.specs.TestsLaws.{read-as}
+use Rattle.bodies.specs.GridLaws.{row-start-small, absent-row, absent-place, present-place}
 use Rattle.bodies.proofs.sets.read_place.Statement.{statement}
 use Rattle.bodies.proofs.sets.read_place.Tie as tie
-use Rattle.bodies.proofs.sets.read_place.Reads as reads
-use Rattle.bodies.proofs.sets.read_place.Lts as lts
-use Rattle.numbers.proofs.fields.signed8.Reads as signed8-reads
+
+ruleset laws = (needs, absent-row, absent-place, present-place, read-as)
 
 returns : tie.Need-returns
-returns c = ?
+returns c = search laws
 
 returns-2 : tie.Need-returns-2
-returns-2 c = ?
+returns-2 c = search laws
 
 mul-signed8 : tie.Need-mul-signed8
-mul-signed8 c = ?
+mul-signed8 c = let small = row-start-small _ _ _ _ 0 (c .before .before .before .pre .0) in omega arith
 
 add-signed8 : tie.Need-add-signed8
-add-signed8 c = ?
+add-signed8 c = let small = row-start-small _ _ _ _ 0 (c .before .before .before .pre .0) in omega arith
 
 mul-signed8-2 : tie.Need-mul-signed8-2
-mul-signed8-2 c = ?
+mul-signed8-2 c = let small = row-start-small _ _ _ _ 0 (c .before .before .before .pre .0) in omega arith
 
 add-signed8-2 : tie.Need-add-signed8-2
-add-signed8-2 c = ?
+add-signed8-2 c = let small = row-start-small _ _ _ _ 0 (c .before .before .before .pre .0) in omega arith
 
 signed8-requires : tie.Need-signed8-requires
-signed8-requires c κs = search needs
+signed8-requires c κs = search laws
 
 returns-3 : tie.Need-returns-3
-returns-3 c = ?
+returns-3 c = search laws
 
 pub read-place-spec : {M : Type 1} → statement M
 read-place-spec =

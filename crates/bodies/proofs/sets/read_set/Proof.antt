@@ -1,13 +1,7 @@
-use Rattle.bodies.specs.Set.{setOf}
-use Rattle.bodies.specs.TestsLaws.{read-as}
 use borrow.Author.Needs.{needs}
+use Rattle.bodies.specs.SetLaws.{set-read}
 use Rattle.bodies.proofs.sets.read_set.Statement.{statement}
 use Rattle.bodies.proofs.sets.read_set.Tie as tie
-use Rattle.bodies.proofs.sets.read_set.Reads as reads
-use Rattle.bodies.proofs.sets.read_set.Lts as lts
-use Rattle.numbers.proofs.fields.number1.Reads as number1-reads
-use Rattle.numbers.proofs.fields.number4.Reads as number4-reads
-use Rattle.numbers.proofs.fields.number8.Reads as number8-reads
 
 number1-requires : tie.Need-number1-requires
 number1-requires c κs = search needs
@@ -28,8 +22,7 @@ number8-requires-2 : tie.Need-number8-requires-2
 number8-requires-2 c κs = search needs
 
 returns : tie.Need-returns
-unfolding setOf
-returns c = search (needs, read-as)
+returns c = search (needs, set-read)
 
 pub read-set-spec : {M : Type 1} → statement M
 read-set-spec =

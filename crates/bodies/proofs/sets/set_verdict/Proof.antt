@@ -4,6 +4,7 @@ use Rattle.bodies.proofs.sets.set_verdict.Tie as tie
 use Rattle.bodies.proofs.sets.set_verdict.Reads as reads
 use Rattle.bodies.proofs.sets.set_verdict.Lts as lts
 use Rattle.bodies.proofs.refused.Reads as refused-reads
+use Rattle.bodies.proofs.sets.coefficient_count.Reads as coefficient-count-reads
 use Rattle.bodies.proofs.sets.coefficients_verdict.Reads as coefficients-verdict-reads
 use Rattle.bodies.proofs.sets.multiplier_wrong.Reads as multiplier-wrong-reads
 use Rattle.bodies.proofs.sets.offset_wrong.Reads as offset-wrong-reads
@@ -47,26 +48,14 @@ refused-requires-4 c κs = search needs
 returns-4 : tie.Need-returns-4
 returns-4 c = ?
 
-cast-count : tie.Need-cast-count
-cast-count c = search needs
-
-add-count : tie.Need-add-count
-add-count c = search needs
-
-cast-count-2 : tie.Need-cast-count-2
-cast-count-2 c = search needs
-
-add-count-2 : tie.Need-add-count-2
-add-count-2 c = search needs
-
-mul-count : tie.Need-mul-count
-mul-count c = ?
+coefficient-count-requires : tie.Need-coefficient-count-requires
+coefficient-count-requires c κs = search needs
 
 mul-if5 : tie.Need-mul-if5
-mul-if5 c = ?
+mul-if5 c = search needs
 
 add-if5 : tie.Need-add-if5
-add-if5 c = ?
+add-if5 c = search needs
 
 refused-requires-5 : tie.Need-refused-requires-5
 refused-requires-5 c κs = search needs
@@ -123,7 +112,7 @@ returns-9 : tie.Need-returns-9
 returns-9 c = ?
 
 coefficients-verdict-requires : tie.Need-coefficients-verdict-requires
-coefficients-verdict-requires c κs = ?
+coefficients-verdict-requires c κs = search needs
 
 returns-10 : tie.Need-returns-10
 returns-10 c = ?
@@ -144,11 +133,7 @@ set-verdict-spec =
     number1-requires-4
     refused-requires-4
     returns-4
-    cast-count
-    add-count
-    cast-count-2
-    add-count-2
-    mul-count
+    coefficient-count-requires
     mul-if5
     add-if5
     refused-requires-5

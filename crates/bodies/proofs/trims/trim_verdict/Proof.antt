@@ -1,26 +1,18 @@
 use borrow.Author.Needs.{needs}
 use Rattle.refusals.specs.FieldsVerdictLaws.{past-right, stop-at-wrong, all-right, judged}
 use Rattle.bodies.specs.Trim.{trimFields}
-use Rattle.bodies.specs.TestsLaws.{equal, unequal, same, other, outside-told, inside-told, beyond-told, within-told, read-as}
+use Rattle.bodies.specs.TestsLaws.{same, other, outside-told, beyond-told, read-as}
 use Rattle.bodies.proofs.trims.trim_verdict.Statement.{statement}
 use Rattle.bodies.proofs.trims.trim_verdict.Tie as tie
-use Rattle.bodies.proofs.trims.trim_verdict.Reads as reads
-use Rattle.bodies.proofs.trims.trim_verdict.Lts as lts
-use Rattle.bodies.proofs.outside.Reads as outside-reads
-use Rattle.bodies.proofs.refused.Reads as refused-reads
-use Rattle.bodies.proofs.beyond.Reads as beyond-reads
-use Rattle.numbers.proofs.fields.number1.Reads as number1-reads
-use Rattle.numbers.proofs.fields.number4.Reads as number4-reads
-use Rattle.numbers.proofs.fields.signed8.Reads as signed8-reads
 
-ruleset laws = (needs, equal, unequal, same, other, outside-told, inside-told, beyond-told, within-told, read-as, past-right, stop-at-wrong, all-right)
+ruleset laws = (needs, same, other, outside-told, beyond-told, read-as, past-right, stop-at-wrong, all-right)
 
 refused-requires : tie.Need-refused-requires
 refused-requires c κs = search needs
 
 returns : tie.Need-returns
 unfolding trimFields
-returns c = judged _ _ _ (search laws depth 12)
+returns c = judged _ _ _ (search laws depth 16)
 
 number1-requires : tie.Need-number1-requires
 number1-requires c κs = search needs
@@ -36,7 +28,7 @@ refused-requires-2 c κs = search needs
 
 returns-2 : tie.Need-returns-2
 unfolding trimFields
-returns-2 c = judged _ _ _ (search laws depth 12)
+returns-2 c = judged _ _ _ (search laws depth 16)
 
 number1-requires-2 : tie.Need-number1-requires-2
 number1-requires-2 c κs = search needs
@@ -46,7 +38,7 @@ refused-requires-3 c κs = search needs
 
 returns-3 : tie.Need-returns-3
 unfolding trimFields
-returns-3 c = judged _ _ _ (search laws depth 12)
+returns-3 c = judged _ _ _ (search laws depth 16)
 
 number1-requires-3 : tie.Need-number1-requires-3
 number1-requires-3 c κs = search needs
@@ -56,7 +48,7 @@ refused-requires-4 c κs = search needs
 
 returns-4 : tie.Need-returns-4
 unfolding trimFields
-returns-4 c = judged _ _ _ (search laws depth 12)
+returns-4 c = judged _ _ _ (search laws depth 16)
 
 number1-requires-4 : tie.Need-number1-requires-4
 number1-requires-4 c κs = search needs
@@ -66,7 +58,7 @@ refused-requires-5 c κs = search needs
 
 returns-5 : tie.Need-returns-5
 unfolding trimFields
-returns-5 c = judged _ _ _ (search laws depth 12)
+returns-5 c = judged _ _ _ (search laws depth 16)
 
 number4-requires : tie.Need-number4-requires
 number4-requires c κs = search needs
@@ -82,7 +74,7 @@ refused-requires-6 c κs = search needs
 
 returns-6 : tie.Need-returns-6
 unfolding trimFields
-returns-6 c = judged _ _ _ (search laws depth 12)
+returns-6 c = judged _ _ _ (search laws depth 16)
 
 signed8-requires : tie.Need-signed8-requires
 signed8-requires c κs = search needs
@@ -95,11 +87,11 @@ refused-requires-7 c κs = search needs
 
 returns-7 : tie.Need-returns-7
 unfolding trimFields
-returns-7 c = judged _ _ _ (search laws depth 12)
+returns-7 c = judged _ _ _ (search laws depth 16)
 
 returns-8 : tie.Need-returns-8
 unfolding trimFields
-returns-8 c = judged _ _ _ (search laws depth 12)
+returns-8 c = judged _ _ _ (search laws depth 16)
 
 pub trim-verdict-spec : {M : Type 1} → statement M
 trim-verdict-spec =
