@@ -1,6 +1,6 @@
 -- The grid: a place of it, and what the loops that fill a row and the grid keep.
 use mathlib.Core.Path.{_≡_, refl, sym, ap, _∙_}
-use mathlib.Core.Bool.{Bool, true, false, cond, _&&_}
+use mathlib.Core.Bool.{and-false}
 use mathlib.Core.List.{List, [], _∷_, _++_, append-assoc, append-nil}
 use Prim.Native.Nat.{ℕ, suc, _+_, _-_, _*_, _≤_, _<_}
 use native.Mathlib.Nat.{mul-le-mul, sub-zero}
@@ -31,11 +31,7 @@ module _ (body : List ℕ) (rows places row place : ℕ) (g : Gridded body rows 
   absent-row h = rw (lt-leb row (pressureOrder body) (omega arith))
 
   pub absent-place : places ≤ place → pos 0 ≡ gridPlace body row place
-  absent-place h = rw (lt-leb place (temperatureOrder body) (omega arith), none (leb row (pressureOrder body)))
-    where
-      none : (b : Bool) → (b && false) ≡ false
-      none true = refl
-      none false = refl
+  absent-place h = rw (lt-leb place (temperatureOrder body) (omega arith), and-false (leb row (pressureOrder body)))
 
   pub present-place : (z : ℤ) → row < rows → place < places → z ≡ signedAt 8 body (28 + 8 * (row * places + place)) → z ≡ gridPlace body row place
   present-place z h k e =
@@ -72,14 +68,14 @@ module _ (body : List ℕ) where
   unfolding rowFrom
   row-next row place left z e = rw e
 
-  pub row-none : (row place : ℕ) → rowFrom body row 0 place ≡ []
+  pub row-filled : (row place : ℕ) (l : List ℤ) → Filling 5 (rowFrom body row) l place → 5 ≤ place → l ≡ rowFrom body row 5 0
   unfolding rowFrom
-  row-none row place = refl
+  row-filled row place l k h = filling-end 5 (rowFrom body row) l place k h (λ j. refl)
 
   pub rows-next : (row left : ℕ) (l : List ℤ) → l ≡ rowFrom body row 5 0 → rowsFrom body (suc left) row ≡ l ∷ rowsFrom body left (row + 1)
   unfolding rowsFrom
   rows-next row left l e = rw e
 
-  pub rows-none : (row : ℕ) → rowsFrom body 0 row ≡ []
+  pub rows-filled : (row : ℕ) (l : List (List ℤ)) → Filling 5 (rowsFrom body) l row → 5 ≤ row → l ≡ rowsFrom body 5 0
   unfolding rowsFrom
-  rows-none row = refl
+  rows-filled row l k h = filling-end 5 (rowsFrom body) l row k h (λ j. refl)

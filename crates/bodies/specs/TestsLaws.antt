@@ -17,12 +17,18 @@ use Rattle.refusals.specs.FieldsVerdictLaws.{Wrong}
 
 -- ---- numbers
 
+pub equal : (n k : ℕ) → n ≡ k → Wrong (eqb n k) false
+equal n k h = record { tells = sym (ap not (eq-eqb n k h)) }
+
+pub unequal : (n k : ℕ) → (n ≡ k → ⊥) → Wrong (eqb n k) true
+unequal n k h = record { tells = sym (ap not (ne-eqb n k h)) }
+
 module _ (x n k : ℕ) where
   pub same : x ≡ k → x ≡ n → Wrong (eqb n k) false
-  same h e = record { tells = sym (ap not (eq-eqb n k (sym e ∙ h))) }
+  same h e = equal n k (sym e ∙ h)
 
   pub other : (x ≡ k → ⊥) → x ≡ n → Wrong (eqb n k) true
-  other h e = record { tells = sym (ap not (ne-eqb n k (λ (f : n ≡ k). h (e ∙ f)))) }
+  other h e = unequal n k (λ (f : n ≡ k). h (e ∙ f))
 
   pub at-most : x ≤ k → x ≡ n → Wrong (leb n k) false
   at-most h e = record { tells = sym (ap not (le-leb n k (rw e at h))) }
@@ -43,8 +49,11 @@ module _ (b : Bool) (low x high : ℕ) (e : b ≡ not (leb low x && leb x high))
   inside : (leb low x && leb x high) ≡ true
   inside = not-false (leb low x && leb x high) (sym e ∙ h)
 
-  pub within-bounds : (low ≤ x) × (x ≤ high)
-  within-bounds = (leb-true low x (both-left (leb low x) (leb x high) inside), leb-true x high (both-right (leb low x) (leb x high) inside))
+  pub not-below : low ≤ x
+  not-below = leb-true low x (both-left (leb low x) (leb x high) inside)
+
+  pub not-above : x ≤ high
+  not-above = leb-true x high (both-right (leb low x) (leb x high) inside)
 
 -- ---- signed numbers
 

@@ -2,11 +2,11 @@ use borrow.Author.Needs.{needs}
 use Rattle.refusals.specs.FieldsVerdictLaws.{past-right, stop-at-wrong, all-right, judged}
 use Rattle.bodies.specs.Identity.{identityFields}
 use Rattle.bodies.specs.IdentityLaws.{days-of}
-use Rattle.bodies.specs.TestsLaws.{same, other, outside-told, read-as, above-told, within-bounds}
+use Rattle.bodies.specs.TestsLaws.{equal, unequal, outside-told, read-as, above-told, not-below, not-above}
 use Rattle.bodies.proofs.identities.identity_verdict.Statement.{statement}
 use Rattle.bodies.proofs.identities.identity_verdict.Tie as tie
 
-ruleset laws = (needs, same, other, outside-told, read-as, above-told, days-of, past-right, stop-at-wrong, all-right)
+ruleset laws = (needs, equal, unequal, outside-told, read-as, above-told, days-of, past-right, stop-at-wrong, all-right)
 
 refused-requires : tie.Need-refused-requires
 refused-requires c κs = search needs
@@ -54,7 +54,7 @@ cast-outside-3 : tie.Need-cast-outside-3
 cast-outside-3 c = search needs
 
 days-in-requires : tie.Need-days-in-requires
-days-in-requires c κs = search (needs, within-bounds)
+days-in-requires c κs = search (needs, not-below, not-above)
 
 cast-outside-4 : tie.Need-cast-outside-4
 cast-outside-4 c = search needs

@@ -1,4 +1,5 @@
 use Prim.Native.Nat.{_-_}
+use native.Mathlib.Omega.{arith}
 use borrow.Author.Needs.{needs}
 use lib.ListN.{length}
 use Rattle.refusals.specs.FieldsVerdictLaws.{judged}
@@ -22,7 +23,7 @@ shared-slice-read-outside : tie.Need-shared-slice-read-outside Inv-loop μ-loop
 shared-slice-read-outside c = search laws
 
 cast-outside : tie.Need-cast-outside Inv-loop μ-loop
-cast-outside c = search laws
+cast-outside c = omega (arith, c .shared-slice-known2 .given (c .before .before .loop .i))
 
 outside-requires : tie.Need-outside-requires Inv-loop μ-loop
 outside-requires c κs = search laws

@@ -2,11 +2,11 @@ use Prim.Native.Nat.{_-_}
 use borrow.Author.Needs.{needs}
 use Rattle.bodies.specs.Set.{rowFrom}
 use Rattle.bodies.specs.TestsLaws.{read-as}
-use Rattle.bodies.specs.GridLaws.{Filling, filling-first, filling-more, filling-end, row-next, row-none}
+use Rattle.bodies.specs.GridLaws.{Filling, filling-first, filling-more, row-next, row-filled}
 use Rattle.bodies.proofs.sets.read_row.Statement.{statement}
 use Rattle.bodies.proofs.sets.read_row.Tie as tie
 
-ruleset laws = (needs, filling-first, filling-more, filling-end, row-next, row-none, read-as)
+ruleset laws = (needs, filling-first, filling-more, row-next, row-filled, read-as)
 
 abbrev Inv-loop : tie.InvT-loop
 Inv-loop body rows places row coefficients₀ place₀ coefficients place = Filling 5 (rowFrom body row) coefficients place

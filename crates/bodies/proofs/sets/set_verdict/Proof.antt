@@ -1,16 +1,12 @@
 use borrow.Author.Needs.{needs}
+use Rattle.refusals.specs.FieldsVerdictLaws.{past-right, stop-at-wrong, judged}
+use Rattle.bodies.specs.Set.{setFields}
+use Rattle.bodies.specs.TestsLaws.{same, other, at-most, more}
+use Rattle.bodies.specs.SetLaws.{multiplier-told, offset-told, length-told, other-length-told, coefficients-judged}
 use Rattle.bodies.proofs.sets.set_verdict.Statement.{statement}
 use Rattle.bodies.proofs.sets.set_verdict.Tie as tie
-use Rattle.bodies.proofs.sets.set_verdict.Reads as reads
-use Rattle.bodies.proofs.sets.set_verdict.Lts as lts
-use Rattle.bodies.proofs.refused.Reads as refused-reads
-use Rattle.bodies.proofs.sets.coefficient_count.Reads as coefficient-count-reads
-use Rattle.bodies.proofs.sets.coefficients_verdict.Reads as coefficients-verdict-reads
-use Rattle.bodies.proofs.sets.multiplier_wrong.Reads as multiplier-wrong-reads
-use Rattle.bodies.proofs.sets.offset_wrong.Reads as offset-wrong-reads
-use Rattle.numbers.proofs.fields.number1.Reads as number1-reads
-use Rattle.numbers.proofs.fields.number4.Reads as number4-reads
-use Rattle.numbers.proofs.fields.number8.Reads as number8-reads
+
+ruleset laws = (needs, same, other, at-most, more, multiplier-told, offset-told, length-told, other-length-told, coefficients-judged, past-right, stop-at-wrong)
 
 number1-requires : tie.Need-number1-requires
 number1-requires c κs = search needs
@@ -19,7 +15,8 @@ refused-requires : tie.Need-refused-requires
 refused-requires c κs = search needs
 
 returns : tie.Need-returns
-returns c = ?
+unfolding setFields
+returns c = judged _ _ _ (search laws depth 16)
 
 number1-requires-2 : tie.Need-number1-requires-2
 number1-requires-2 c κs = search needs
@@ -28,7 +25,8 @@ refused-requires-2 : tie.Need-refused-requires-2
 refused-requires-2 c κs = search needs
 
 returns-2 : tie.Need-returns-2
-returns-2 c = ?
+unfolding setFields
+returns-2 c = judged _ _ _ (search laws depth 16)
 
 number1-requires-3 : tie.Need-number1-requires-3
 number1-requires-3 c κs = search needs
@@ -37,7 +35,8 @@ refused-requires-3 : tie.Need-refused-requires-3
 refused-requires-3 c κs = search needs
 
 returns-3 : tie.Need-returns-3
-returns-3 c = ?
+unfolding setFields
+returns-3 c = judged _ _ _ (search laws depth 16)
 
 number1-requires-4 : tie.Need-number1-requires-4
 number1-requires-4 c κs = search needs
@@ -46,7 +45,8 @@ refused-requires-4 : tie.Need-refused-requires-4
 refused-requires-4 c κs = search needs
 
 returns-4 : tie.Need-returns-4
-returns-4 c = ?
+unfolding setFields
+returns-4 c = judged _ _ _ (search laws depth 16)
 
 coefficient-count-requires : tie.Need-coefficient-count-requires
 coefficient-count-requires c κs = search needs
@@ -61,7 +61,8 @@ refused-requires-5 : tie.Need-refused-requires-5
 refused-requires-5 c κs = search needs
 
 returns-5 : tie.Need-returns-5
-returns-5 c = ?
+unfolding setFields
+returns-5 c = judged _ _ _ (search laws depth 16)
 
 number4-requires : tie.Need-number4-requires
 number4-requires c κs = search needs
@@ -73,7 +74,8 @@ refused-requires-6 : tie.Need-refused-requires-6
 refused-requires-6 c κs = search needs
 
 returns-6 : tie.Need-returns-6
-returns-6 c = ?
+unfolding setFields
+returns-6 c = judged _ _ _ (search laws depth 16)
 
 number8-requires : tie.Need-number8-requires
 number8-requires c κs = search needs
@@ -85,7 +87,8 @@ refused-requires-7 : tie.Need-refused-requires-7
 refused-requires-7 c κs = search needs
 
 returns-7 : tie.Need-returns-7
-returns-7 c = ?
+unfolding setFields
+returns-7 c = judged _ _ _ (search laws depth 16)
 
 number4-requires-2 : tie.Need-number4-requires-2
 number4-requires-2 c κs = search needs
@@ -97,7 +100,8 @@ refused-requires-8 : tie.Need-refused-requires-8
 refused-requires-8 c κs = search needs
 
 returns-8 : tie.Need-returns-8
-returns-8 c = ?
+unfolding setFields
+returns-8 c = judged _ _ _ (search laws depth 16)
 
 number8-requires-2 : tie.Need-number8-requires-2
 number8-requires-2 c κs = search needs
@@ -109,13 +113,15 @@ refused-requires-9 : tie.Need-refused-requires-9
 refused-requires-9 c κs = search needs
 
 returns-9 : tie.Need-returns-9
-returns-9 c = ?
+unfolding setFields
+returns-9 c = judged _ _ _ (search laws depth 16)
 
 coefficients-verdict-requires : tie.Need-coefficients-verdict-requires
 coefficients-verdict-requires c κs = search needs
 
 returns-10 : tie.Need-returns-10
-returns-10 c = ?
+unfolding setFields
+returns-10 c = judged _ _ _ (search laws depth 16)
 
 pub set-verdict-spec : {M : Type 1} → statement M
 set-verdict-spec =
