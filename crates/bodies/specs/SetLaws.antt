@@ -5,7 +5,6 @@ use mathlib.Core.List.{List, [], _∷_}
 use Prim.Native.Nat.{ℕ, suc, _+_, _-_, _*_, _^_, _≤_, _<_}
 use native.Mathlib.Nat.{mul-le-mul, sub-zero}
 use native.Mathlib.Omega.{arith}
-use borrow.Author.Tests.{eq-eqb, ne-eqb}
 use lib.Dec.{leb, eqb}
 use lib.IntN.{natAbs}
 use lib.ListN.{length}
@@ -15,6 +14,7 @@ use Rattle.refusals.specs.declared.Verdict.the-variants.{Accepted, Refused}
 use Rattle.refusals.specs.Refusals.{refusal, fieldsVerdict}
 use Rattle.refusals.specs.FieldsVerdictLaws.{Wrong, Judged, Passed, stop-at-wrong, all-right, passed-none, passed-right, judged-left}
 use Rattle.bodies.specs.declared.Set.{Set}
+use Rattle.bodies.specs.TestsLaws.{equal, unequal}
 use Rattle.bodies.specs.Set.{setOf, pressureOrder, temperatureOrder, coefficientCount, coefficientAt, multiplierRight, offsetRight, coefficientFields}
 
 pub set-read : (body : List ℕ) {np mp fp nt mt ft : ℕ}
@@ -39,18 +39,32 @@ few x y h k =
     let b : y + 1 ≤ 5 = omega arith in
     mul-le-mul a b
 
-module _ (body : List ℕ) (x y count : ℕ) (c : count ≡ (x + 1) * (y + 1)) (e : x ≡ pressureOrder body) (f : y ≡ temperatureOrder body) where
-  counted : count ≡ coefficientCount body
-  counted = rw (e, f) at c
+-- the orders that the code read, and how many coefficients they make
+pub record Ordered (body : List ℕ) (x y count : ℕ) : Type 0 where
+  pub pressure : x ≡ pressureOrder body
+  pub temperature : y ≡ temperatureOrder body
+  pub counted : count ≡ coefficientCount body
+  pub small : count ≤ 25
+
+module _ (body : List ℕ) (x y count : ℕ) (e : x ≡ pressureOrder body) (f : y ≡ temperatureOrder body) (c : count ≡ (x + 1) * (y + 1)) where
+  coefficients-counted : count ≡ coefficientCount body
+  coefficients-counted = rw (e, f) at c
+
+  all-there : 28 + 8 * count ≡ 28 + 8 * coefficientCount body
+  all-there = ap (λ (n : ℕ). 28 + 8 * n) coefficients-counted
 
   pub length-told : length body ≡ 28 + 8 * count → Wrong (eqb (length body) (28 + 8 * coefficientCount body)) false
-  length-told h = record { tells = sym (ap not (eq-eqb _ _ (h ∙ ap (λ (n : ℕ). 28 + 8 * n) counted))) }
+  length-told h = equal (length body) (28 + 8 * coefficientCount body) (h ∙ all-there)
 
   pub other-length-told : (length body ≡ 28 + 8 * count → ⊥) → Wrong (eqb (length body) (28 + 8 * coefficientCount body)) true
-  other-length-told h = record { tells = sym (ap not (ne-eqb _ _ (λ (g : length body ≡ 28 + 8 * coefficientCount body). h (g ∙ sym (ap (λ (n : ℕ). 28 + 8 * n) counted))))) }
+  other-length-told h = unequal (length body) (28 + 8 * coefficientCount body) (λ (g : length body ≡ 28 + 8 * coefficientCount body). h (g ∙ sym all-there))
 
-  pub coefficients-judged : (number : ℕ) {verdict : Verdict} → verdict ≡ fieldsVerdict number (coefficientFields body count 0) → Judged number (coefficientFields body (coefficientCount body) 0) verdict
-  coefficients-judged number h = record { so = rw counted at h }
+  pub ordered : count ≤ 25 → Ordered body x y count
+  ordered h = record { pressure = e; temperature = f; counted = coefficients-counted; small = h }
+
+pub coefficients-judged : (number : ℕ) (body : List ℕ) (x y count : ℕ) {verdict : Verdict} → Ordered body x y count
+    → verdict ≡ fieldsVerdict number (coefficientFields body count 0) → Judged number (coefficientFields body (coefficientCount body) 0) verdict
+coefficients-judged number body x y count o h = record { so = rw (o .counted) at h }
 
 -- ---- the loop: the coefficients before the i-th are right
 

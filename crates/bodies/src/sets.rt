@@ -11,9 +11,11 @@ use refusals::Verdict;
 ghost use mathlib.Core.Path.{_≡_};
 ghost use mathlib.Core.Bool.{not};
 ghost use Prim.Native.Nat.{_+_, _*_, _≤_, _<_};
+ghost use lib.ListN.{drop};
 ghost use Rattle.refusals.specs.Refusals.{fieldsVerdict};
+ghost use Rattle.bodies.specs.SetLaws.{Ordered};
 ghost use Rattle.bodies.specs.GridLaws.{Gridded};
-ghost use Rattle.bodies.specs.Set.{setOf, setVerdict, multiplierRight, offsetRight, coefficientFields, gridPlace, rowFrom, gridOf};
+ghost use Rattle.bodies.specs.Set.{setOf, setVerdict, setFields, multiplierRight, offsetRight, coefficientFields, gridPlace, rowFrom, gridOf};
 
 pub fn read_set(body: &[u8]) -> Set
     ensures { λ r. ⌜ r ≡ setOf (now (body .entry)) ⌝ }
@@ -43,28 +45,36 @@ pub fn set_verdict(body: &[u8], number: u32) -> Verdict
     if number1(body, 1) != 1 {
         return refused(number);
     }
-    let pressure_order = number1(body, 2);
-    if 4 < pressure_order {
+    let pressure = number1(body, 2);
+    if 4 < pressure {
         return refused(number);
     }
-    let temperature_order = number1(body, 3);
-    if 4 < temperature_order {
+    let temperature = number1(body, 3);
+    if 4 < temperature {
         return refused(number);
     }
-    let count = coefficient_count(pressure_order, temperature_order);
+    let count = coefficient_count(pressure, temperature);
     if body.len() != 28 + 8 * count {
         return refused(number);
     }
-    if multiplier_wrong(pressure_order, number4(body, 4)) {
+    prescales_verdict(body, pressure, temperature, count, number)
+}
+
+// Multiplier and offset of each prescale, then the coefficients.
+fn prescales_verdict(body: &[u8], pressure: u8, temperature: u8, count: usize, number: u32) -> Verdict
+    requires { ⌜ Ordered (now body) pressure temperature count ⌝ }
+    ensures { λ r. ⌜ r ≡ fieldsVerdict number (drop 5 (setFields (now (body .entry)))) ⌝ }
+{
+    if multiplier_wrong(pressure, number4(body, 4)) {
         return refused(number);
     }
-    if offset_wrong(pressure_order, number8(body, 8)) {
+    if offset_wrong(pressure, number8(body, 8)) {
         return refused(number);
     }
-    if multiplier_wrong(temperature_order, number4(body, 16)) {
+    if multiplier_wrong(temperature, number4(body, 16)) {
         return refused(number);
     }
-    if offset_wrong(temperature_order, number8(body, 20)) {
+    if offset_wrong(temperature, number8(body, 20)) {
         return refused(number);
     }
     coefficients_verdict(body, count, number)

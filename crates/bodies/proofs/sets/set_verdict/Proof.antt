@@ -1,12 +1,12 @@
 use borrow.Author.Needs.{needs}
-use Rattle.refusals.specs.FieldsVerdictLaws.{past-right, stop-at-wrong, judged}
+use Rattle.refusals.specs.FieldsVerdictLaws.{Judged, past-right, stop-at-wrong, judged}
 use Rattle.bodies.specs.Set.{setFields}
 use Rattle.bodies.specs.TestsLaws.{same, other, at-most, more}
-use Rattle.bodies.specs.SetLaws.{multiplier-told, offset-told, length-told, other-length-told, coefficients-judged}
+use Rattle.bodies.specs.SetLaws.{length-told, other-length-told, ordered}
 use Rattle.bodies.proofs.sets.set_verdict.Statement.{statement}
 use Rattle.bodies.proofs.sets.set_verdict.Tie as tie
 
-ruleset laws = (needs, same, other, at-most, more, multiplier-told, offset-told, length-told, other-length-told, coefficients-judged, past-right, stop-at-wrong)
+ruleset laws = (needs, same, other, at-most, more, length-told, other-length-told, past-right, stop-at-wrong)
 
 number1-requires : tie.Need-number1-requires
 number1-requires c κs = search needs
@@ -64,64 +64,12 @@ returns-5 : tie.Need-returns-5
 unfolding setFields
 returns-5 c = judged _ _ _ (search laws depth 16)
 
-number4-requires : tie.Need-number4-requires
-number4-requires c κs = search needs
-
-multiplier-wrong-requires : tie.Need-multiplier-wrong-requires
-multiplier-wrong-requires c κs = search needs
-
-refused-requires-6 : tie.Need-refused-requires-6
-refused-requires-6 c κs = search needs
+prescales-verdict-requires : tie.Need-prescales-verdict-requires
+prescales-verdict-requires c κs = search (needs, ordered)
 
 returns-6 : tie.Need-returns-6
 unfolding setFields
 returns-6 c = judged _ _ _ (search laws depth 16)
-
-number8-requires : tie.Need-number8-requires
-number8-requires c κs = search needs
-
-offset-wrong-requires : tie.Need-offset-wrong-requires
-offset-wrong-requires c κs = search needs
-
-refused-requires-7 : tie.Need-refused-requires-7
-refused-requires-7 c κs = search needs
-
-returns-7 : tie.Need-returns-7
-unfolding setFields
-returns-7 c = judged _ _ _ (search laws depth 16)
-
-number4-requires-2 : tie.Need-number4-requires-2
-number4-requires-2 c κs = search needs
-
-multiplier-wrong-requires-2 : tie.Need-multiplier-wrong-requires-2
-multiplier-wrong-requires-2 c κs = search needs
-
-refused-requires-8 : tie.Need-refused-requires-8
-refused-requires-8 c κs = search needs
-
-returns-8 : tie.Need-returns-8
-unfolding setFields
-returns-8 c = judged _ _ _ (search laws depth 16)
-
-number8-requires-2 : tie.Need-number8-requires-2
-number8-requires-2 c κs = search needs
-
-offset-wrong-requires-2 : tie.Need-offset-wrong-requires-2
-offset-wrong-requires-2 c κs = search needs
-
-refused-requires-9 : tie.Need-refused-requires-9
-refused-requires-9 c κs = search needs
-
-returns-9 : tie.Need-returns-9
-unfolding setFields
-returns-9 c = judged _ _ _ (search laws depth 16)
-
-coefficients-verdict-requires : tie.Need-coefficients-verdict-requires
-coefficients-verdict-requires c κs = search needs
-
-returns-10 : tie.Need-returns-10
-unfolding setFields
-returns-10 c = judged _ _ _ (search laws depth 16)
 
 pub set-verdict-spec : {M : Type 1} → statement M
 set-verdict-spec =
@@ -144,21 +92,5 @@ set-verdict-spec =
     add-if5
     refused-requires-5
     returns-5
-    number4-requires
-    multiplier-wrong-requires
-    refused-requires-6
-    returns-6
-    number8-requires
-    offset-wrong-requires
-    refused-requires-7
-    returns-7
-    number4-requires-2
-    multiplier-wrong-requires-2
-    refused-requires-8
-    returns-8
-    number8-requires-2
-    offset-wrong-requires-2
-    refused-requires-9
-    returns-9
-    coefficients-verdict-requires
-    returns-10)
+    prescales-verdict-requires
+    returns-6)
