@@ -61,7 +61,13 @@ pub fn set_verdict(body: &[u8], number: u32) -> Verdict
 }
 
 // Multiplier and offset of each prescale, then the coefficients.
-fn prescales_verdict(body: &[u8], pressure: u8, temperature: u8, count: usize, number: u32) -> Verdict
+fn prescales_verdict(
+    body: &[u8],
+    pressure: u8,
+    temperature: u8,
+    count: usize,
+    number: u32,
+) -> Verdict
     requires { ⌜ Ordered (now body) pressure temperature count ⌝ }
     ensures { λ r. ⌜ r ≡ fieldsVerdict number (drop 5 (setFields (now (body .entry)))) ⌝ }
 {
