@@ -1,5 +1,5 @@
 -- The grid: a place of it, and what the loops that fill a row and the grid keep.
-use mathlib.Core.Path.{_≡_, refl, sym, ap, _∙_}
+use mathlib.Core.Path.{_≡_, refl, sym, _∙_}
 use mathlib.Core.Bool.{and-false}
 use mathlib.Core.List.{List, [], _∷_, _++_, append-assoc, append-nil}
 use Prim.Native.Nat.{ℕ, suc, _+_, _-_, _*_, _≤_, _<_}
@@ -12,7 +12,7 @@ use lib.IntN.{ℤ, pos}
 use lib.ListN.{length, take, set, length-set}
 use lib.Seq.{take-suc-set, take-all}
 use Rattle.numbers.specs.Fields.{signedAt}
-use Rattle.bodies.specs.Set.{pressureOrder, temperatureOrder, coefficientAt, gridPlace, rowFrom, rowsFrom}
+use Rattle.bodies.specs.Set.{pressureOrder, temperatureOrder, gridPlace, rowFrom, rowsFrom}
 
 -- ---- a place
 

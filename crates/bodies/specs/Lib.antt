@@ -8,3 +8,4 @@ pub mod SetLaws
 pub mod GridLaws
 pub mod TrimLaws
 pub mod NoteLaws
+pub mod Examples

@@ -61,6 +61,7 @@ fn refused(number: u32) -> Verdict
     Verdict::Refused(Refusal { number, detail: 0 })
 }
 
+// Not from low to high.
 fn outside(low: u64, number: u64, high: u64) -> bool
     ensures { λ r. ⌜ r ≡ not (leb low number && leb number high) ⌝ }
 {

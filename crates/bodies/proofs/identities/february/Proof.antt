@@ -1,4 +1,3 @@
-use mathlib.Core.Path.{sym}
 use borrow.Author.Needs.{needs}
 use Rattle.bodies.proofs.identities.february.Statement.{statement}
 use Rattle.bodies.proofs.identities.february.Tie as tie

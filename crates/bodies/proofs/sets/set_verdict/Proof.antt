@@ -1,5 +1,5 @@
 use borrow.Author.Needs.{needs}
-use Rattle.refusals.specs.FieldsVerdictLaws.{Judged, past-right, stop-at-wrong, judged}
+use Rattle.refusals.specs.FieldsVerdictLaws.{past-right, stop-at-wrong, judged}
 use Rattle.bodies.specs.Set.{setFields}
 use Rattle.bodies.specs.TestsLaws.{same, other, at-most, more}
 use Rattle.bodies.specs.SetLaws.{length-told, other-length-told, ordered}
