@@ -9,6 +9,7 @@ ghost use Rattle.refusals.specs.Refusals.{refusal};
 ghost use Rattle.refusals.specs.declared.Verdict.the-variants.{Refused};
 
 mod identities;
+// Kind 129 says nothing that is read: it has a verdict alone.
 mod notes;
 mod sets;
 mod trims;

@@ -6,14 +6,14 @@ use Rattle.bodies.specs.TestsLaws.{equal, unequal, outside-told, read-as
 use Rattle.bodies.proofs.identities.identity_verdict.Statement.{statement}
 use Rattle.bodies.proofs.identities.identity_verdict.Tie as tie
 
-ruleset laws = (needs, equal, unequal, outside-told, read-as, above-told, days-of, past-right, stop-at-wrong, all-right)
+ruleset laws = (needs, judged, equal, unequal, outside-told, read-as, above-told, days-of, past-right, stop-at-wrong, all-right)
 
 refused-requires : tie.Need-refused-requires
 refused-requires c κs = search needs
 
 returns : tie.Need-returns
 unfolding identityFields
-returns c = judged _ _ _ (search laws depth 16)
+returns c = search laws depth 16
 
 number2-requires : tie.Need-number2-requires
 number2-requires c κs = search needs
@@ -29,7 +29,7 @@ refused-requires-2 c κs = search needs
 
 returns-2 : tie.Need-returns-2
 unfolding identityFields
-returns-2 c = judged _ _ _ (search laws depth 16)
+returns-2 c = search laws depth 16
 
 number1-requires : tie.Need-number1-requires
 number1-requires c κs = search needs
@@ -45,7 +45,7 @@ refused-requires-3 c κs = search needs
 
 returns-3 : tie.Need-returns-3
 unfolding identityFields
-returns-3 c = judged _ _ _ (search laws depth 16)
+returns-3 c = search laws depth 16
 
 number1-requires-2 : tie.Need-number1-requires-2
 number1-requires-2 c κs = search needs
@@ -67,7 +67,7 @@ refused-requires-4 c κs = search needs
 
 returns-4 : tie.Need-returns-4
 unfolding identityFields
-returns-4 c = judged _ _ _ (search laws depth 16)
+returns-4 c = search laws depth 16
 
 signed4-requires : tie.Need-signed4-requires
 signed4-requires c κs = search needs
@@ -80,7 +80,7 @@ refused-requires-5 c κs = search needs
 
 returns-5 : tie.Need-returns-5
 unfolding identityFields
-returns-5 c = judged _ _ _ (search laws depth 16)
+returns-5 c = search laws depth 16
 
 signed4-requires-3 : tie.Need-signed4-requires-3
 signed4-requires-3 c κs = search needs
@@ -93,11 +93,11 @@ refused-requires-6 c κs = search needs
 
 returns-6 : tie.Need-returns-6
 unfolding identityFields
-returns-6 c = judged _ _ _ (search laws depth 16)
+returns-6 c = search laws depth 16
 
 returns-7 : tie.Need-returns-7
 unfolding identityFields
-returns-7 c = judged _ _ _ (search laws depth 16)
+returns-7 c = search laws depth 16
 
 pub identity-verdict-spec : {M : Type 1} → statement M
 identity-verdict-spec =

@@ -8,7 +8,7 @@ use Rattle.bodies.specs.NoteLaws.{Characters, characters-first, characte
 use Rattle.bodies.proofs.notes.characters_verdict.Statement.{statement}
 use Rattle.bodies.proofs.notes.characters_verdict.Tie as tie
 
-ruleset laws = (needs, outside-told, characters-first, characters-more, characters-wrong, characters-end)
+ruleset laws = (needs, judged, outside-told, characters-first, characters-more, characters-wrong, characters-end)
 
 abbrev Inv-loop : tie.InvT-loop
 Inv-loop body i₀ i = Characters body i
@@ -32,7 +32,7 @@ refused-requires : tie.Need-refused-requires Inv-loop μ-loop
 refused-requires c κs = search laws
 
 returns : tie.Need-returns Inv-loop μ-loop
-returns c = judged _ _ _ (search laws)
+returns c = search laws
 
 add-i : tie.Need-add-i Inv-loop μ-loop
 add-i c = search laws
@@ -44,7 +44,7 @@ loop-again : tie.Need-loop-again Inv-loop μ-loop
 loop-again c = search laws
 
 returns-2 : tie.Need-returns-2 Inv-loop μ-loop
-returns-2 c = judged _ _ _ (search laws)
+returns-2 c = search laws
 
 pub characters-verdict-spec : {M : Type 1} → statement M
 characters-verdict-spec =

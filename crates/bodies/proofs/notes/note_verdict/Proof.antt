@@ -5,7 +5,7 @@ use Rattle.bodies.specs.TestsLaws.{outside-told}
 use Rattle.bodies.proofs.notes.note_verdict.Statement.{statement}
 use Rattle.bodies.proofs.notes.note_verdict.Tie as tie
 
-ruleset laws = (needs, outside-told, past-right, stop-at-wrong)
+ruleset laws = (needs, judged, outside-told, past-right, stop-at-wrong)
 
 outside-requires : tie.Need-outside-requires
 outside-requires c κs = search needs
@@ -15,14 +15,14 @@ refused-requires c κs = search needs
 
 returns : tie.Need-returns
 unfolding noteFields
-returns c = judged _ _ _ (search laws)
+returns c = search laws
 
 characters-verdict-requires : tie.Need-characters-verdict-requires
 characters-verdict-requires c κs = search needs
 
 returns-2 : tie.Need-returns-2
 unfolding noteFields
-returns-2 c = judged _ _ _ (search laws)
+returns-2 c = search laws
 
 pub note-verdict-spec : {M : Type 1} → statement M
 note-verdict-spec =

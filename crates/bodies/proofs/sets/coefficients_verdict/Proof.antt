@@ -6,7 +6,7 @@ use Rattle.bodies.specs.SetLaws.{Coefficients, coefficients-first, coeff
 use Rattle.bodies.proofs.sets.coefficients_verdict.Statement.{statement}
 use Rattle.bodies.proofs.sets.coefficients_verdict.Tie as tie
 
-ruleset laws = (needs, beyond-told, read-as, coefficients-first, coefficients-more, coefficients-wrong, coefficients-end)
+ruleset laws = (needs, judged, beyond-told, read-as, coefficients-first, coefficients-more, coefficients-wrong, coefficients-end)
 
 abbrev Inv-loop : tie.InvT-loop
 Inv-loop body count number i₀ i = Coefficients number body count i
@@ -33,7 +33,7 @@ refused-requires : tie.Need-refused-requires Inv-loop μ-loop
 refused-requires c κs = search laws
 
 returns : tie.Need-returns Inv-loop μ-loop
-returns c = judged _ _ _ (search laws)
+returns c = search laws
 
 add-i : tie.Need-add-i Inv-loop μ-loop
 add-i c = search laws
@@ -45,7 +45,7 @@ loop-again : tie.Need-loop-again Inv-loop μ-loop
 loop-again c = search laws
 
 returns-2 : tie.Need-returns-2 Inv-loop μ-loop
-returns-2 c = judged _ _ _ (search laws)
+returns-2 c = search laws
 
 pub coefficients-verdict-spec : {M : Type 1} → statement M
 coefficients-verdict-spec =

@@ -5,7 +5,7 @@ use Rattle.bodies.specs.SetLaws.{multiplier-told, offset-told, coefficie
 use Rattle.bodies.proofs.sets.prescales_verdict.Statement.{statement}
 use Rattle.bodies.proofs.sets.prescales_verdict.Tie as tie
 
-ruleset laws = (needs, multiplier-told, offset-told, coefficients-judged, past-right, stop-at-wrong)
+ruleset laws = (needs, judged, multiplier-told, offset-told, coefficients-judged, past-right, stop-at-wrong)
 
 number4-requires : tie.Need-number4-requires
 number4-requires c κs = search needs
@@ -18,7 +18,7 @@ refused-requires c κs = search needs
 
 returns : tie.Need-returns
 unfolding setFields
-returns c = judged _ _ _ (search laws depth 16)
+returns c = search laws depth 16
 
 number8-requires : tie.Need-number8-requires
 number8-requires c κs = search needs
@@ -31,7 +31,7 @@ refused-requires-2 c κs = search needs
 
 returns-2 : tie.Need-returns-2
 unfolding setFields
-returns-2 c = judged _ _ _ (search laws depth 16)
+returns-2 c = search laws depth 16
 
 number4-requires-2 : tie.Need-number4-requires-2
 number4-requires-2 c κs = search needs
@@ -44,7 +44,7 @@ refused-requires-3 c κs = search needs
 
 returns-3 : tie.Need-returns-3
 unfolding setFields
-returns-3 c = judged _ _ _ (search laws depth 16)
+returns-3 c = search laws depth 16
 
 number8-requires-2 : tie.Need-number8-requires-2
 number8-requires-2 c κs = search needs
@@ -57,14 +57,14 @@ refused-requires-4 c κs = search needs
 
 returns-4 : tie.Need-returns-4
 unfolding setFields
-returns-4 c = judged _ _ _ (search laws depth 16)
+returns-4 c = search laws depth 16
 
 coefficients-verdict-requires : tie.Need-coefficients-verdict-requires
 coefficients-verdict-requires c κs = search needs
 
 returns-5 : tie.Need-returns-5
 unfolding setFields
-returns-5 c = judged _ _ _ (search laws depth 16)
+returns-5 c = search laws depth 16
 
 pub prescales-verdict-spec : {M : Type 1} → statement M
 prescales-verdict-spec =
