@@ -4,9 +4,9 @@ use mathlib.Core.List.{List, [], _∷_, _++_}
 use Prim.Native.Nat.{ℕ, zero, suc, _+_, _≤_, _<_, min}
 use native.Mathlib.Numerals.{add-one}
 use native.Mathlib.Omega.{arith}
+use borrow.Author.Tests.{le-leb, lt-leb}
 use lib.ListN.{length, take, set, length-append, length-take}
 use lib.Seq.{getD-set-same, getD-set-other, take-all}
-use borrow.Author.Tests.{le-leb, lt-leb}
 use Rattle.laws.specs.Cases.{split}
 use Rattle.refusals.specs.declared.Verdict.the-variants.{Refused}
 use Rattle.refusals.specs.Refusals.{refusal}

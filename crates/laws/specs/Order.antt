@@ -1,15 +1,28 @@
--- What a test on signed numbers says.
-use mathlib.Core.Path.{_≡_, refl, subst}
-use mathlib.Core.Bool.{true, false}
-use Prim.Native.Nat.{ℕ, _≤_}
+-- What a test on numbers says.
+use mathlib.Core.Path.{_≡_, refl, sym, ap, _∙_, subst}
+use mathlib.Core.Bool.{true, false, not}
+use Prim.Native.Nat.{ℕ, _≤_, _<_}
 use native.Mathlib.Omega.{arith}
-use borrow.Author.Tests.{ltb-true, leb-true}
-use lib.Dec.{T}
+use borrow.Author.Tests.{ltb-true, leb-true, lt-ltb, le-ltb, le-leb, lt-leb}
+use lib.Dec.{T, leb, ltb}
 use lib.IntN.{ℤ, pos, negsuc, natAbs}
 use lib.Signed.{mag, ltZ, leZ}
-use Rattle.laws.specs.Cases.{never}
+use Rattle.laws.specs.Cases.{split, never}
 
--- a number by its sign
+-- less is not at most the other way round
+pub less-otherwise : (a b : ℕ) → ltb b a ≡ not (leb a b)
+less-otherwise a b =
+    split a b
+    (λ (h : a ≤ b). le-ltb b a h ∙ sym (ap not (le-leb a b h)))
+    (λ (h : b < a). lt-ltb b a h ∙ sym (ap not (lt-leb a b h)))
+
+pub less-otherwiseℤ : (a b : ℤ) → ltZ b a ≡ not (leZ a b)
+less-otherwiseℤ (pos a) (pos b) = less-otherwise a b
+less-otherwiseℤ (pos a) (negsuc b) = refl
+less-otherwiseℤ (negsuc a) (pos b) = refl
+less-otherwiseℤ (negsuc a) (negsuc b) = less-otherwise b a
+
+-- a signed number by its sign
 pub below-zero : (z : ℤ) → ltZ z (pos 0) ≡ true → z ≡ negsuc (mag z)
 below-zero (pos a) e = let h = ltb-true a 0 e in absurd (omega arith)
 below-zero (negsuc a) e = refl

@@ -1,4 +1,6 @@
 ghost use mathlib.Core.Path.{_≡_};
+ghost use Prim.Native.Nat.{_+_, _≤_, _<_};
+ghost use lib.ListN.{length};
 ghost use Rattle.numbers.specs.Fields.{numberAt, signedAt};
 
 pub fn number1(bytes: &[u8], place: usize) -> u8
@@ -24,6 +26,9 @@ pub fn number4(bytes: &[u8], place: usize) -> u32
     if bytes.len() <= place {
         return 0;
     }
+    if 4 <= bytes.len() - place {
+        return whole4(bytes, place);
+    }
     let low = number2(bytes, place) as u32;
     let high = number2(bytes, place + 2) as u32;
     low + 65536 * high
@@ -34,6 +39,9 @@ pub fn number8(bytes: &[u8], place: usize) -> u64
 {
     if bytes.len() <= place {
         return 0;
+    }
+    if 8 <= bytes.len() - place {
+        return whole8(bytes, place);
     }
     let low = number4(bytes, place) as u64;
     let high = number4(bytes, place + 4) as u64;
@@ -60,4 +68,39 @@ pub fn signed8(bytes: &[u8], place: usize) -> i64
     } else {
         -1 - ((18446744073709551615 - number) as i64)
     }
+}
+
+// The same where every byte is there: no test, so that a number comes to one load.
+fn whole1(bytes: &[u8], place: usize) -> u8
+    requires { ⌜ place < length (now bytes) ⌝ }
+    ensures { λ r. ⌜ r ≡ numberAt 1 (now (bytes .entry)) place ⌝ }
+{
+    bytes[place]
+}
+
+fn whole2(bytes: &[u8], place: usize) -> u16
+    requires { ⌜ place + 2 ≤ length (now bytes) ⌝ }
+    ensures { λ r. ⌜ r ≡ numberAt 2 (now (bytes .entry)) place ⌝ }
+{
+    let first = whole1(bytes, place) as u16;
+    let second = whole1(bytes, place + 1) as u16;
+    first + 256 * second
+}
+
+fn whole4(bytes: &[u8], place: usize) -> u32
+    requires { ⌜ place + 4 ≤ length (now bytes) ⌝ }
+    ensures { λ r. ⌜ r ≡ numberAt 4 (now (bytes .entry)) place ⌝ }
+{
+    let first = whole2(bytes, place) as u32;
+    let second = whole2(bytes, place + 2) as u32;
+    first + 65536 * second
+}
+
+fn whole8(bytes: &[u8], place: usize) -> u64
+    requires { ⌜ place + 8 ≤ length (now bytes) ⌝ }
+    ensures { λ r. ⌜ r ≡ numberAt 8 (now (bytes .entry)) place ⌝ }
+{
+    let first = whole4(bytes, place) as u64;
+    let second = whole4(bytes, place + 4) as u64;
+    first + 4294967296 * second
 }

@@ -5,8 +5,10 @@ mod levels;
 
 // The verdict on an image.
 mod verdicts;
+
 pub use verdicts::verdict;
 
 // The reading of an image.
 mod readings;
+
 pub use readings::reading;

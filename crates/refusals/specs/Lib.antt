@@ -2,3 +2,4 @@ pub mod Paper
 pub mod Refusals
 pub mod RefusalsLaws
 pub mod VerdictLaws
+pub mod FieldsVerdictLaws

@@ -1,8 +1,8 @@
 use borrow.Author.Needs.{needs}
-use Rattle.builder.proofs.begun.Statement.{statement}
-use Rattle.builder.proofs.begun.Tie as tie
 use Rattle.builder.specs.CheckLaws.{buildable}
 use Rattle.builder.specs.WriteLaws.{begun-accepted, begun-refused}
+use Rattle.builder.proofs.begun.Statement.{statement}
+use Rattle.builder.proofs.begun.Tie as tie
 
 ruleset laws = (needs, buildable, begun-accepted, begun-refused)
 

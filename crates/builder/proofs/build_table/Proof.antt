@@ -1,7 +1,7 @@
 use borrow.Author.Needs.{needs}
+use Rattle.refusals.specs.RefusalsLaws.{settled-fills}
 use Rattle.builder.proofs.build_table.Statement.{statement}
 use Rattle.builder.proofs.build_table.Tie as tie
-use Rattle.refusals.specs.RefusalsLaws.{settled-fills}
 
 ruleset laws = (needs, settled-fills)
 

@@ -1,8 +1,8 @@
+use Prim.Native.Nat.{_-_}
 use borrow.Author.Needs.{needs}
+use Rattle.builder.specs.CheckLaws.{Rising, rising-first, rising-more, rising-low, rising-high, rising-end}
 use Rattle.builder.proofs.check.kinds_rise.Statement.{statement}
 use Rattle.builder.proofs.check.kinds_rise.Tie as tie
-use Prim.Native.Nat.{_-_}
-use Rattle.builder.specs.CheckLaws.{Rising, rising-first, rising-more, rising-low, rising-high, rising-end}
 
 ruleset laws = (needs, rising-first, rising-more, rising-low, rising-high, rising-end)
 

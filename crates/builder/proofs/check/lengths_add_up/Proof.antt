@@ -1,8 +1,8 @@
+use Prim.Native.Nat.{_-_}
 use borrow.Author.Needs.{needs}
+use Rattle.builder.specs.CheckLaws.{Adding, adding-first, adding-more, adding-short, adding-end}
 use Rattle.builder.proofs.check.lengths_add_up.Statement.{statement}
 use Rattle.builder.proofs.check.lengths_add_up.Tie as tie
-use Prim.Native.Nat.{_-_}
-use Rattle.builder.specs.CheckLaws.{Adding, adding-first, adding-more, adding-short, adding-end}
 
 ruleset laws = (needs, adding-first, adding-more, adding-short, adding-end)
 

@@ -1,7 +1,7 @@
 use borrow.Author.Needs.{needs}
+use Rattle.builder.specs.CheckLaws.{lengths-differ, lengths-within}
 use Rattle.builder.proofs.check.lengths_right.Statement.{statement}
 use Rattle.builder.proofs.check.lengths_right.Tie as tie
-use Rattle.builder.specs.CheckLaws.{lengths-differ, lengths-within}
 
 ruleset laws = (needs, lengths-differ, lengths-within)
 

@@ -1,7 +1,7 @@
 use borrow.Author.Needs.{needs}
+use Rattle.builder.specs.CheckLaws.{lines-none, lines-many, lines-rise}
 use Rattle.builder.proofs.check.lines_right.Statement.{statement}
 use Rattle.builder.proofs.check.lines_right.Tie as tie
-use Rattle.builder.specs.CheckLaws.{lines-none, lines-many, lines-rise}
 
 ruleset laws = (needs, lines-none, lines-many, lines-rise)
 

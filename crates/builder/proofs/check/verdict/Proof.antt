@@ -1,7 +1,7 @@
 use borrow.Author.Needs.{needs}
+use Rattle.builder.specs.CheckLaws.{lines-few, verdict-lines, verdict-lengths, verdict-size, verdict-accepted}
 use Rattle.builder.proofs.check.verdict.Statement.{statement}
 use Rattle.builder.proofs.check.verdict.Tie as tie
-use Rattle.builder.specs.CheckLaws.{lines-few, verdict-lines, verdict-lengths, verdict-size, verdict-accepted}
 
 ruleset laws = (needs, lines-few, verdict-lines, verdict-lengths, verdict-size, verdict-accepted)
 

@@ -1,7 +1,7 @@
 use borrow.Author.Needs.{needs}
+use Rattle.builder.specs.GatherLaws.{gathered-none}
 use Rattle.builder.proofs.gather.empty.Statement.{statement}
 use Rattle.builder.proofs.gather.empty.Tie as tie
-use Rattle.builder.specs.GatherLaws.{gathered-none}
 
 ruleset laws = (needs, gathered-none)
 

@@ -1,7 +1,7 @@
 use borrow.Author.Needs.{needs}
+use Rattle.builder.specs.GatherLaws.{gathered-more, gathered-many}
 use Rattle.builder.proofs.gather.put.Statement.{statement}
 use Rattle.builder.proofs.gather.put.Tie as tie
-use Rattle.builder.specs.GatherLaws.{gathered-more, gathered-many}
 
 ruleset laws = (needs, gathered-more, gathered-many)
 

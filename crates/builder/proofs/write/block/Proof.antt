@@ -1,9 +1,9 @@
-use borrow.Author.Needs.{needs}
-use Rattle.builder.proofs.write.block.Statement.{statement}
-use Rattle.builder.proofs.write.block.Tie as tie
 use Prim.Native.Nat.{_-_}
+use borrow.Author.Needs.{needs}
 use lib.ListN.{length}
 use Rattle.builder.specs.WriteLaws.{Copying, copying-first, copying-more, copying-end}
+use Rattle.builder.proofs.write.block.Statement.{statement}
+use Rattle.builder.proofs.write.block.Tie as tie
 
 ruleset laws = (needs, copying-first, copying-more, copying-end)
 

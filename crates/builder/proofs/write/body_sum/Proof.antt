@@ -1,7 +1,7 @@
 use borrow.Author.Needs.{needs}
+use Rattle.builder.specs.WriteLaws.{sum-of-part}
 use Rattle.builder.proofs.write.body_sum.Statement.{statement}
 use Rattle.builder.proofs.write.body_sum.Tie as tie
-use Rattle.builder.specs.WriteLaws.{sum-of-part}
 
 ruleset laws = (needs, sum-of-part)
 

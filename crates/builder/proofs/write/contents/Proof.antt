@@ -1,8 +1,8 @@
+use Prim.Native.Nat.{_-_}
 use borrow.Author.Needs.{needs}
+use Rattle.builder.specs.WriteLaws.{Writing, kind-fits, length-fits, start-fits, writing-first, writing-more, writing-end}
 use Rattle.builder.proofs.write.contents.Statement.{statement}
 use Rattle.builder.proofs.write.contents.Tie as tie
-use Prim.Native.Nat.{_-_}
-use Rattle.builder.specs.WriteLaws.{Writing, kind-fits, length-fits, start-fits, writing-first, writing-more, writing-end}
 
 ruleset laws = (needs, kind-fits, length-fits, start-fits, writing-first, writing-more, writing-end)
 

@@ -1,7 +1,7 @@
 use borrow.Author.Needs.{needs}
+use Rattle.builder.specs.WriteLaws.{image-written}
 use Rattle.builder.proofs.write.image.Statement.{statement}
 use Rattle.builder.proofs.write.image.Tie as tie
-use Rattle.builder.specs.WriteLaws.{image-written}
 
 cast-start : tie.Need-cast-start
 cast-start c = search needs

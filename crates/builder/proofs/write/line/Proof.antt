@@ -1,9 +1,9 @@
+use native.Mathlib.Omega.{arith}
 use borrow.Author.Needs.{needs}
+use lib.ListN.{length-set}
+use Rattle.builder.specs.WriteLaws.{eight-stores}
 use Rattle.builder.proofs.write.line.Statement.{statement}
 use Rattle.builder.proofs.write.line.Tie as tie
-use lib.ListN.{length-set}
-use native.Mathlib.Omega.{arith}
-use Rattle.builder.specs.WriteLaws.{eight-stores}
 
 ruleset laws = (needs, eight-stores)
 

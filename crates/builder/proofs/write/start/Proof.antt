@@ -1,7 +1,7 @@
 use borrow.Author.Needs.{needs}
+use Rattle.builder.specs.WriteLaws.{two-stores}
 use Rattle.builder.proofs.write.start.Statement.{statement}
 use Rattle.builder.proofs.write.start.Tie as tie
-use Rattle.builder.specs.WriteLaws.{two-stores}
 
 ruleset laws = (needs, two-stores)
 

@@ -6,6 +6,15 @@ use Rattle.numbers.proofs.fields.number4.Tie as tie
 returns : tie.Need-returns
 returns c = search (needs, number-past-end)
 
+sub-if2 : tie.Need-sub-if2
+sub-if2 c = search needs
+
+whole4-requires : tie.Need-whole4-requires
+whole4-requires c κs = search needs
+
+returns-2 : tie.Need-returns-2
+returns-2 c = search needs
+
 number2-requires : tie.Need-number2-requires
 number2-requires c κs = search needs
 
@@ -27,14 +36,17 @@ mul-result c = search needs
 add-result : tie.Need-add-result
 add-result c = search needs
 
-returns-2 : tie.Need-returns-2
-returns-2 c = search (needs, number-of-halves 2 2)
+returns-3 : tie.Need-returns-3
+returns-3 c = search (needs, number-of-halves 2 2)
 
 pub number4-spec : {M : Type 1} → statement M
 number4-spec =
     tie.close
     (tie.spec
     returns
+    sub-if2
+    whole4-requires
+    returns-2
     number2-requires
     cast-low
     add-number2
@@ -42,4 +54,4 @@ number4-spec =
     cast-high
     mul-result
     add-result
-    returns-2)
+    returns-3)

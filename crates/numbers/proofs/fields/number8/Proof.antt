@@ -6,6 +6,15 @@ use Rattle.numbers.proofs.fields.number8.Tie as tie
 returns : tie.Need-returns
 returns c = search (needs, number-past-end)
 
+sub-if2 : tie.Need-sub-if2
+sub-if2 c = search needs
+
+whole8-requires : tie.Need-whole8-requires
+whole8-requires c κs = search needs
+
+returns-2 : tie.Need-returns-2
+returns-2 c = search needs
+
 number4-requires : tie.Need-number4-requires
 number4-requires c κs = search needs
 
@@ -27,14 +36,17 @@ mul-result c = search needs
 add-result : tie.Need-add-result
 add-result c = search needs
 
-returns-2 : tie.Need-returns-2
-returns-2 c = search (needs, number-of-halves 4 4)
+returns-3 : tie.Need-returns-3
+returns-3 c = search (needs, number-of-halves 4 4)
 
 pub number8-spec : {M : Type 1} → statement M
 number8-spec =
     tie.close
     (tie.spec
     returns
+    sub-if2
+    whole8-requires
+    returns-2
     number4-requires
     cast-low
     add-number4
@@ -42,4 +54,4 @@ number8-spec =
     cast-high
     mul-result
     add-result
-    returns-2)
+    returns-3)

@@ -1,0 +1,23 @@
+use borrow.Author.Needs.{needs}
+use Rattle.bodies.specs.IdentityLaws.{days-listed}
+use Rattle.bodies.proofs.identities.days_in.Statement.{statement}
+use Rattle.bodies.proofs.identities.days_in.Tie as tie
+
+february-requires : tie.Need-february-requires
+february-requires c κs = search needs
+
+sub-result : tie.Need-sub-result
+sub-result c = search needs
+
+cast-result : tie.Need-cast-result
+cast-result c = search needs
+
+array-read-result : tie.Need-array-read-result
+array-read-result c = search needs
+
+returns : tie.Need-returns
+returns c = search (needs, days-listed)
+
+pub days-in-spec : {M : Type 1} → statement M
+days-in-spec =
+    tie.close (tie.spec february-requires sub-result cast-result array-read-result returns)

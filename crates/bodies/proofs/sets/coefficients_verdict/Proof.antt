@@ -1,0 +1,66 @@
+use Prim.Native.Nat.{_-_}
+use borrow.Author.Needs.{needs}
+use Rattle.refusals.specs.FieldsVerdictLaws.{judged}
+use Rattle.bodies.specs.TestsLaws.{beyond-told, read-as}
+use Rattle.bodies.specs.SetLaws.{Coefficients, coefficients-first, coefficients-more, coefficients-wrong, coefficients-end}
+use Rattle.bodies.proofs.sets.coefficients_verdict.Statement.{statement}
+use Rattle.bodies.proofs.sets.coefficients_verdict.Tie as tie
+
+ruleset laws = (needs, judged, beyond-told, read-as, coefficients-first, coefficients-more, coefficients-wrong, coefficients-end)
+
+abbrev Inv-loop : tie.InvT-loop
+Inv-loop body count number i₀ i = Coefficients number body count i
+
+abbrev μ-loop : tie.MeasureT-loop
+μ-loop body count number i₀ i = count - i
+
+loop-holds : tie.Need-loop-holds Inv-loop μ-loop
+loop-holds c = search laws
+
+mul-signed8 : tie.Need-mul-signed8 Inv-loop μ-loop
+mul-signed8 c = search laws
+
+add-signed8 : tie.Need-add-signed8 Inv-loop μ-loop
+add-signed8 c = search laws
+
+signed8-requires : tie.Need-signed8-requires Inv-loop μ-loop
+signed8-requires c κs = search laws
+
+beyond-requires : tie.Need-beyond-requires Inv-loop μ-loop
+beyond-requires c κs = search laws
+
+refused-requires : tie.Need-refused-requires Inv-loop μ-loop
+refused-requires c κs = search laws
+
+returns : tie.Need-returns Inv-loop μ-loop
+returns c = search laws
+
+add-i : tie.Need-add-i Inv-loop μ-loop
+add-i c = search laws
+
+loop-less : tie.Need-loop-less Inv-loop μ-loop
+loop-less c = search laws
+
+loop-again : tie.Need-loop-again Inv-loop μ-loop
+loop-again c = search laws
+
+returns-2 : tie.Need-returns-2 Inv-loop μ-loop
+returns-2 c = search laws
+
+pub coefficients-verdict-spec : {M : Type 1} → statement M
+coefficients-verdict-spec =
+    tie.close
+    (tie.spec
+    Inv-loop
+    μ-loop
+    loop-holds
+    mul-signed8
+    add-signed8
+    signed8-requires
+    beyond-requires
+    refused-requires
+    returns
+    add-i
+    loop-less
+    loop-again
+    returns-2)

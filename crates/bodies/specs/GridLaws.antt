@@ -1,0 +1,81 @@
+-- The grid: a place of it, and what the loops that fill a row and the grid keep.
+use mathlib.Core.Path.{_≡_, refl, sym, _∙_}
+use mathlib.Core.Bool.{and-false}
+use mathlib.Core.List.{List, [], _∷_, _++_, append-assoc, append-nil}
+use Prim.Native.Nat.{ℕ, suc, _+_, _-_, _*_, _≤_, _<_}
+use native.Mathlib.Nat.{mul-le-mul, sub-zero}
+use native.Mathlib.Numerals.{add-one}
+use native.Mathlib.Omega.{arith}
+use borrow.Author.Tests.{le-leb, lt-leb}
+use lib.Dec.{leb}
+use lib.IntN.{ℤ, pos}
+use lib.ListN.{length, take, set, length-set}
+use lib.Seq.{take-suc-set, take-all}
+use Rattle.numbers.specs.Fields.{signedAt}
+use Rattle.bodies.specs.Set.{pressureOrder, temperatureOrder, gridPlace, rowFrom, rowsFrom}
+
+-- ---- a place
+
+-- rows and places are as many as the body's orders say, and the row is one of five
+pub record Gridded (body : List ℕ) (rows places row : ℕ) : Type 0 where
+  pub rows-are : rows ≡ pressureOrder body + 1
+  pub places-are : places ≡ temperatureOrder body + 1
+  pub few-places : places ≤ 256
+  pub in-grid : row < 5
+
+module _ (body : List ℕ) (rows places row place : ℕ) (g : Gridded body rows places row) where
+  pub row-start-small : row * places ≤ 1024
+  row-start-small = let h : row ≤ 4 = omega arith in mul-le-mul h (g .few-places)
+
+  pub absent-row : rows ≤ row → pos 0 ≡ gridPlace body row place
+  absent-row h = rw (lt-leb row (pressureOrder body) (omega arith))
+
+  pub absent-place : places ≤ place → pos 0 ≡ gridPlace body row place
+  absent-place h = rw (lt-leb place (temperatureOrder body) (omega arith), and-false (leb row (pressureOrder body)))
+
+  pub present-place : (z : ℤ) → row < rows → place < places → z ≡ signedAt 8 body (28 + 8 * (row * places + place)) → z ≡ gridPlace body row place
+  present-place z h k e =
+      rw (le-leb row (pressureOrder body) (omega arith), le-leb place (temperatureOrder body) (omega arith), ← g .places-are) e
+
+-- ---- an array that is filled from its start; `from left i` lists the `left` elements from the i-th on
+
+pub record Filling {A : Type 0} (size : ℕ) (from : ℕ → ℕ → List A) (l : List A) (i : ℕ) : Type 0 where
+  pub rest : take i l ++ from (size - i) i ≡ from size 0
+  pub long : length l ≡ size
+
+module _ {A : Type 0} (size : ℕ) (from : ℕ → ℕ → List A) (l : List A) where
+  pub filling-first : length l ≡ size → Filling size from l 0
+  filling-first e = record { rest = rw (sub-zero size); long = e }
+
+  module _ (i : ℕ) (k : Filling size from l i) where
+    pub filling-more : (a : A) → i < size → ((left : ℕ) → from (suc left) i ≡ a ∷ from left (i + 1)) → Filling size from (set l i a) (i + 1)
+    filling-more a h next = record { rest = more ∙ k .rest; long = length-set l i a ∙ k .long }
+      where
+        more : take (i + 1) (set l i a) ++ from (size - (i + 1)) (i + 1) ≡ take i l ++ from (size - i) i
+        more =
+            let e : size - i ≡ suc (size - (i + 1)) = omega arith in
+            let b : i < length l = omega (arith, k .long) in
+            rw (e, next (size - (i + 1)), add-one i, take-suc-set l i a b) (append-assoc (take i l) (a ∷ []) (from (size - suc i) (suc i)))
+
+    pub filling-end : size ≤ i → ((j : ℕ) → from 0 j ≡ []) → l ≡ from size 0
+    filling-end h none =
+        let e : size - i ≡ 0 = omega arith in
+        let b : length l ≤ i = omega (arith, k .long) in
+        sym (rw (e, none i, take-all i l b) (append-nil l)) ∙ k .rest
+
+module _ (body : List ℕ) where
+  pub row-next : (row place left : ℕ) (z : ℤ) → z ≡ gridPlace body row place → rowFrom body row (suc left) place ≡ z ∷ rowFrom body row left (place + 1)
+  unfolding rowFrom
+  row-next row place left z e = rw e
+
+  pub row-filled : (row place : ℕ) (l : List ℤ) → Filling 5 (rowFrom body row) l place → 5 ≤ place → l ≡ rowFrom body row 5 0
+  unfolding rowFrom
+  row-filled row place l k h = filling-end 5 (rowFrom body row) l place k h (λ j. refl)
+
+  pub rows-next : (row left : ℕ) (l : List ℤ) → l ≡ rowFrom body row 5 0 → rowsFrom body (suc left) row ≡ l ∷ rowsFrom body left (row + 1)
+  unfolding rowsFrom
+  rows-next row left l e = rw e
+
+  pub rows-filled : (row : ℕ) (l : List (List ℤ)) → Filling 5 (rowsFrom body) l row → 5 ≤ row → l ≡ rowsFrom body 5 0
+  unfolding rowsFrom
+  rows-filled row l k h = filling-end 5 (rowsFrom body) l row k h (λ j. refl)

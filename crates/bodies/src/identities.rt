@@ -1,0 +1,77 @@
+use super::Identity;
+use super::outside;
+use super::refused;
+use numbers::fields::number1;
+use numbers::fields::number2;
+use numbers::fields::number4;
+use numbers::fields::signed4;
+use refusals::Verdict;
+ghost use mathlib.Core.Path.{_≡_};
+ghost use mathlib.Core.Bool.{cond};
+ghost use Prim.Native.Nat.{_≤_};
+ghost use Rattle.bodies.specs.Identity.{identityOf, identityVerdict, leapYear, daysIn};
+
+pub fn read_identity(body: &[u8]) -> Identity
+    ensures { λ r. ⌜ r ≡ identityOf (now (body .entry)) ⌝ }
+{
+    Identity {
+        serial: number4(body, 0),
+        year: number2(body, 4),
+        month: number1(body, 6),
+        day: number1(body, 7),
+        tmin: signed4(body, 8),
+        tmax: signed4(body, 12),
+        pmin: signed4(body, 16),
+        pmax: signed4(body, 20),
+    }
+}
+
+pub fn identity_verdict(body: &[u8]) -> Verdict
+    ensures { λ r. ⌜ r ≡ identityVerdict (now (body .entry)) ⌝ }
+{
+    if body.len() != 24 {
+        return refused(11);
+    }
+    let year = number2(body, 4);
+    if outside(1980, year as u64, 2099) {
+        return refused(11);
+    }
+    let month = number1(body, 6);
+    if outside(1, month as u64, 12) {
+        return refused(11);
+    }
+    if outside(1, number1(body, 7) as u64, days_in(year, month) as u64) {
+        return refused(11);
+    }
+    let tmin = signed4(body, 8);
+    let tmax = signed4(body, 12);
+    if tmax < tmin {
+        return refused(11);
+    }
+    let pmin = signed4(body, 16);
+    let pmax = signed4(body, 20);
+    if pmax < pmin {
+        return refused(11);
+    }
+    Verdict::Accepted
+}
+
+fn leap_year(year: u16) -> bool
+    ensures { λ r. ⌜ r ≡ leapYear year ⌝ }
+{
+    year % 4 == 0 && (year % 100 != 0 || year % 400 == 0)
+}
+
+fn february(year: u16) -> u8
+    ensures { λ r. ⌜ r ≡ cond (leapYear year) 29 28 ⌝ }
+{
+    if leap_year(year) { 29 } else { 28 }
+}
+
+fn days_in(year: u16, month: u8) -> u8
+    requires { ⌜ (1 ≤ month) × (month ≤ 12) ⌝ }
+    ensures { λ r. ⌜ r ≡ daysIn year month ⌝ }
+{
+    let lengths: [u8; 12] = [31, february(year), 31, 30, 31, 30, 31, 31, 30, 31, 30, 31];
+    lengths[(month - 1) as usize]
+}

@@ -1,0 +1,28 @@
+use super::outside;
+use super::refused;
+use refusals::Verdict;
+ghost use mathlib.Core.Path.{_≡_};
+ghost use Rattle.refusals.specs.Refusals.{fieldsVerdict};
+ghost use Rattle.bodies.specs.Note.{characterFields, noteVerdict};
+
+pub fn note_verdict(body: &[u8]) -> Verdict
+    ensures { λ r. ⌜ r ≡ noteVerdict (now (body .entry)) ⌝ }
+{
+    if outside(1, body.len() as u64, 64) {
+        return refused(16);
+    }
+    characters_verdict(body)
+}
+
+fn characters_verdict(body: &[u8]) -> Verdict
+    ensures { λ r. ⌜ r ≡ fieldsVerdict 16 (characterFields (now (body .entry))) ⌝ }
+{
+    let mut i: usize = 0;
+    while i < body.len() {
+        if outside(32, body[i] as u64, 126) {
+            return refused(16);
+        }
+        i += 1;
+    }
+    Verdict::Accepted
+}
