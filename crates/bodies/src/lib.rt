@@ -69,12 +69,9 @@ fn outside(low: u64, number: u64, high: u64) -> bool
     number < low || high < number
 }
 
-// Farther from 0 than the limit. -1 - number fits for every negative number, and 0 - number does not.
+// Farther from 0 than the limit.
 fn beyond(number: i64, limit: u64) -> bool
     ensures { λ r. ⌜ r ≡ not (leb (natAbs number) limit) ⌝ }
 {
-    if number < 0 {
-        return limit <= ((-1 - number) as u64);
-    }
-    limit < number as u64
+    limit < numbers::whole::magnitude(number)
 }

@@ -1,22 +1,15 @@
 use borrow.Author.Needs.{needs}
-use Rattle.bodies.specs.TestsLaws.{less-fits, less-natural, beyond-below, natural, beyond-above}
+use lib.IntN.{natAbs}
+use mir.Facts.{toZ-ofZ}
+use Rattle.laws.specs.Order.{less-otherwise}
 use Rattle.bodies.proofs.beyond.Statement.{statement}
 use Rattle.bodies.proofs.beyond.Tie as tie
 
-sub-result : tie.Need-sub-result
-sub-result c = search (needs, less-fits)
-
-cast-result : tie.Need-cast-result
-cast-result c = less-natural (c .before .args .number) (search needs) (search needs)
+magnitude-requires : tie.Need-magnitude-requires
+magnitude-requires c κs = search needs
 
 returns : tie.Need-returns
-returns c = search (needs, beyond-below)
-
-cast-result-2 : tie.Need-cast-result-2
-cast-result-2 c = natural (c .before .args .number) (search needs) (search needs)
-
-returns-2 : tie.Need-returns-2
-returns-2 c = search (needs, beyond-above)
+returns c = rw (rw (toZ-ofZ (c .before .fits .number)) at (c .magnitude .ensures)) (less-otherwise (natAbs (c .before .args .number)) (c .before .args .limit))
 
 pub beyond-spec : {M : Type 1} → statement M
-beyond-spec = tie.close (tie.spec sub-result cast-result returns cast-result-2 returns-2)
+beyond-spec = tie.close (tie.spec magnitude-requires returns)
