@@ -45,6 +45,11 @@ unfolding bodyOf sectionsFrom statedFrom
 body-stated image zero i kind = refl
 body-stated image (suc left) i kind = decide (eqb kind (kindAt image i)) (λ e. rw e) (λ e. rw e (body-stated image left (i + 1) kind))
 
+-- whatever the layout, what the lines say of a kind is the body of that kind
+pub body-said : (image : List ℕ) (kind : ℕ) → bodyOf kind (sections image) ≡ bodySaid image (statedPlace image kind)
+unfolding sections
+body-said image kind = body-stated image (lineCount image) 0 kind
+
 inside-stated : (image : List ℕ) (left i kind : ℕ) → ((k : ℕ) → k < left → offsetAt image (i + k) + lengthAt image (i + k) ≤ length image)
     → Inside image (statedFrom image left i kind)
 unfolding statedFrom
@@ -64,10 +69,9 @@ pub record Places (image : List ℕ) (kind : ℕ) (place : Place) : Type 0 where
 module _ (image : List ℕ) (kind : ℕ) where
   -- in a good layout, what the lines say
   pub stated-places : layoutVerdict image ≡ Accepted → Places image kind (statedPlace image kind)
-  unfolding sections
   stated-places e =
       record {
-        body-is = found-good image kind e ∙ body-stated image (lineCount image) 0 kind;
+        body-is = found-good image kind e ∙ body-said image kind;
         offset-is = offset-good image kind e ∙ offset-stated image (lineCount image) 0 kind;
         inside = inside-stated image (lineCount image) 0 kind (λ (k : ℕ) (h : k < lineCount image). rw (zero-add k) (body-within image e k h));
       }

@@ -5,7 +5,7 @@ use refusals::Verdict;
 ghost use mathlib.Core.Path.{_≡_};
 ghost use Rattle.refusals.specs.Refusals.{refusal};
 ghost use Rattle.image.specs.Sections.{sections};
-ghost use Rattle.panel.specs.Verdict.{levelVerdict, unknownVerdict, presentVerdict, missingVerdict, kindVerdict, bodyVerdict, bodiesVerdict, verdictOf};
+ghost use Rattle.panel.specs.Verdict.{levelVerdict, unknownVerdict, presentVerdict, missingVerdict, kindVerdict, bodyVerdict, bodiesVerdict, sectionsVerdict, verdictOf};
 
 fn refused(number: u32, detail: u64) -> Verdict
     ensures { λ r. ⌜ r ≡ Verdict.Refused (refusal number detail) ⌝ }
@@ -123,6 +123,21 @@ fn bodies_verdict(image: &[u8], level: u32) -> Verdict
     body_verdict(image, level, 129)
 }
 
+// An image whose layout is good.
+fn sections_verdict(image: &[u8], level: u32) -> Verdict
+    ensures { λ r. ⌜ r ≡ sectionsVerdict level (sections (now (image .entry))) ⌝ }
+{
+    let unknown = unknown_verdict(image, level);
+    let Verdict::Accepted = unknown else {
+        return unknown;
+    };
+    let missing = missing_verdict(image);
+    let Verdict::Accepted = missing else {
+        return missing;
+    };
+    bodies_verdict(image, level)
+}
+
 // What a panel of this level says of an image: accepted, or its first refusal.
 pub fn verdict(image: &[u8], level: u32) -> Verdict
     ensures { λ r. ⌜ r ≡ verdictOf level (now (image .entry)) ⌝ }
@@ -135,13 +150,5 @@ pub fn verdict(image: &[u8], level: u32) -> Verdict
     let Verdict::Accepted = laid else {
         return laid;
     };
-    let unknown = unknown_verdict(image, level);
-    let Verdict::Accepted = unknown else {
-        return unknown;
-    };
-    let missing = missing_verdict(image);
-    let Verdict::Accepted = missing else {
-        return missing;
-    };
-    bodies_verdict(image, level)
+    sections_verdict(image, level)
 }

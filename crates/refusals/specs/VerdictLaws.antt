@@ -33,6 +33,13 @@ passes next e = rw e
 pub stops : {first : Verdict} {r : Refusal} (next : Verdict) → first ≡ Refused r → andThen first next ≡ Refused r
 stops next e = rw e
 
+-- how code that stops at the first refusal comes to both
+pub stops-there : (first next : Verdict) {v : Verdict} (r : Refusal) → v ≡ first → v ≡ Refused r → v ≡ andThen first next
+stops-there first next r e f = rw (← e, f)
+
+pub goes-on : (first next : Verdict) {w : Verdict} (v : Verdict) → v ≡ first → v ≡ Accepted → w ≡ next → w ≡ andThen first next
+goes-on first next v e f g = rw (← e, f) g
+
 pub first-passed : (first next : Verdict) → andThen first next ≡ Accepted → first ≡ Accepted
 first-passed Accepted next e = refl
 first-passed (Refused r) next e = e

@@ -1,0 +1,80 @@
+use Prim.Native.Nat.{_-_}
+use borrow.Author.Needs.{needs}
+use Rattle.panel.specs.VerdictLaws.{Passing, passing-first, passing-more, unknown-here, none-unknown}
+use Rattle.panel.proofs.verdicts.unknown_verdict.Statement.{statement}
+use Rattle.panel.proofs.verdicts.unknown_verdict.Tie as tie
+
+ruleset laws = (needs, passing-first, passing-more, unknown-here, none-unknown)
+
+abbrev Inv-loop : tie.InvT-loop
+Inv-loop image level count i₀ i = Passing image level count i
+
+abbrev μ-loop : tie.MeasureT-loop
+μ-loop image level count i₀ i = count - i
+
+number1-requires : tie.Need-number1-requires Inv-loop μ-loop
+number1-requires c κs = search laws
+
+cast-count : tie.Need-cast-count Inv-loop μ-loop
+cast-count c = search laws
+
+loop-holds : tie.Need-loop-holds Inv-loop μ-loop
+loop-holds c = search laws
+
+mul-number1 : tie.Need-mul-number1 Inv-loop μ-loop
+mul-number1 c = search laws
+
+add-number1 : tie.Need-add-number1 Inv-loop μ-loop
+add-number1 c = search laws
+
+number1-requires-2 : tie.Need-number1-requires-2 Inv-loop μ-loop
+number1-requires-2 c κs = search laws
+
+cast-kind : tie.Need-cast-kind Inv-loop μ-loop
+cast-kind c = search laws
+
+may-pass-requires : tie.Need-may-pass-requires Inv-loop μ-loop
+may-pass-requires c κs = search laws
+
+cast-refused : tie.Need-cast-refused Inv-loop μ-loop
+cast-refused c = search laws
+
+refused-requires : tie.Need-refused-requires Inv-loop μ-loop
+refused-requires c κs = search laws
+
+returns : tie.Need-returns Inv-loop μ-loop
+returns c = search laws
+
+add-i : tie.Need-add-i Inv-loop μ-loop
+add-i c = search laws
+
+loop-less : tie.Need-loop-less Inv-loop μ-loop
+loop-less c = search laws
+
+loop-again : tie.Need-loop-again Inv-loop μ-loop
+loop-again c = search laws
+
+returns-2 : tie.Need-returns-2 Inv-loop μ-loop
+returns-2 c = search laws
+
+pub unknown-verdict-spec : {M : Type 1} → statement M
+unknown-verdict-spec =
+    tie.close
+    (tie.spec
+    Inv-loop
+    μ-loop
+    number1-requires
+    cast-count
+    loop-holds
+    mul-number1
+    add-number1
+    number1-requires-2
+    cast-kind
+    may-pass-requires
+    cast-refused
+    refused-requires
+    returns
+    add-i
+    loop-less
+    loop-again
+    returns-2)
