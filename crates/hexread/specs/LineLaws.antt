@@ -137,9 +137,6 @@ line-counted u n next c p h f z =
 
 module _ (u d d′ : List ℕ) (room at n next : ℕ) (r : Record) (c : getD u 0 0 ≡ 58) (p : Pair u 1 n) (h : n < 256)
     (f : Following u (11 + n * 2) next) (z : next ≡ 0 → ⊥) (within : at ≤ room) (roomy : room ≤ length d) (t : Taken r (take (11 + n * 2) u) d d′ room at) where
-  line : List ℕ
-  line = take (11 + n * 2) u
-
   ends : Ends u (11 + n * 2) next
   ends = f .found z
 

@@ -92,7 +92,7 @@ says-data room at l n e =
     let p = unless-fault (formed l) _ 1 n e in
     let q = unless-fault (summed bytes) _ 2 n (p .1) in
     let t = data-cases (eqb (typeOf bytes) 0) (ltb 0 (countOf bytes) && eqb (addressOf bytes) at) (leb (at + countOf bytes) room)
-            (eqb (typeOf bytes) 1 && (eqb (countOf bytes) 0 && eqb (addressOf bytes) 0)) (countOf bytes) n (q .1) in
+    (eqb (typeOf bytes) 1 && (eqb (countOf bytes) 0 && eqb (addressOf bytes) 0)) (countOf bytes) n (q .1) in
     record {
       good = p .0;
       counts = t .2;

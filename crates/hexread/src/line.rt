@@ -3,8 +3,8 @@ ghost use lib.ListN.{length};
 ghost use Rattle.hexread.specs.DigitsLaws.{Valued};
 ghost use Rattle.hexread.specs.LineLaws.{Following, Stepped};
 use crate::digits::pair;
-use hextext::Record;
 use crate::record::take_record;
+use hextext::Record;
 
 // What the first line of a text is: a record of so many data bytes, or the end record, each with the next line's start,
 // or what it is refused by.

@@ -1,12 +1,10 @@
 // The character of a number below 16.
-fn hex_digit(value: u16) -> u16
-{
+fn hex_digit(value: u16) -> u16 {
     if value < 10 { 48 + value } else { 55 + value }
 }
 
 // The two characters of each byte, the first in the low half.
-pub fn spellings() -> [u16; 256]
-{
+pub fn spellings() -> [u16; 256] {
     let mut pairs = [0u16; 256];
     let mut byte: u16 = 0;
     while byte < 256 {
@@ -17,8 +15,7 @@ pub fn spellings() -> [u16; 256]
 }
 
 // Writes the characters of the bytes.
-pub fn put_bytes(pairs: &[u16; 256], text: &mut [u8], at: usize, bytes: &[u8])
-{
+pub fn put_bytes(pairs: &[u16; 256], text: &mut [u8], at: usize, bytes: &[u8]) {
     let mut i: usize = 0;
     while i < bytes.len() {
         let pair = pairs[bytes[i] as usize];

@@ -1,11 +1,10 @@
-use crate::record::put_record;
 use crate::digits::spellings;
+use crate::record::put_record;
 use refusals::Filled;
 use refusals::Refusal;
 
 // How many characters the text of `count` bytes has.
-fn text_length(count: usize) -> usize
-{
+fn text_length(count: usize) -> usize {
     if count % 16 == 0 {
         count / 16 * 44 + 12
     } else {
@@ -13,8 +12,7 @@ fn text_length(count: usize) -> usize
     }
 }
 
-fn put_records(pairs: &[u16; 256], image: &[u8], text: &mut [u8])
-{
+fn put_records(pairs: &[u16; 256], image: &[u8], text: &mut [u8]) {
     let mut start: usize = 0;
     let mut at: usize = 0;
     while 16 <= image.len() - start {
@@ -29,8 +27,7 @@ fn put_records(pairs: &[u16; 256], image: &[u8], text: &mut [u8])
 }
 
 // Writes the image's text from the buffer's start. What stands after the result is anything.
-pub fn write_records(image: &[u8], text: &mut [u8]) -> Filled
-{
+pub fn write_records(image: &[u8], text: &mut [u8]) -> Filled {
     let size = image.len();
     if 4096 < size {
         return Filled::Refused(Refusal {

@@ -1,103 +1,99 @@
 use borrow.Author.Needs.{needs}
+use Rattle.hexread.specs.RecordLaws.{taken-bad-high, taken-bad-low, taken-bad-kind, taken-bad-data, taken-bad-rest, taken-bad-sum, taken-typed}
 use Rattle.hexread.proofs.record.take_record.Statement.{statement}
 use Rattle.hexread.proofs.record.take_record.Tie as tie
-use Rattle.hexread.proofs.record.take_record.Reads as reads
-use Rattle.hexread.proofs.record.take_record.Lts as lts
-use Rattle.hexread.proofs.digits.pair.Reads as pair-reads
-use Rattle.hexread.proofs.record.fitting.Reads as fitting-reads
-use Rattle.hexread.proofs.record.judged.Reads as judged-reads
-use Rattle.hexread.proofs.record.put_data.Reads as put-data-reads
-use Rattle.hexread.proofs.record.sum_of_pairs.Reads as sum-of-pairs-reads
+
+ruleset laws = (needs, taken-bad-high, taken-bad-low, taken-bad-kind, taken-bad-data, taken-bad-rest, taken-bad-sum, taken-typed)
 
 pair-requires : tie.Need-pair-requires
-pair-requires c κs = search needs
+pair-requires c κs = search laws
 
 returns : tie.Need-returns
-returns c = ?
+returns c = search laws
 
 pair-requires-2 : tie.Need-pair-requires-2
-pair-requires-2 c κs = search needs
+pair-requires-2 c κs = search laws
 
 returns-2 : tie.Need-returns-2
-returns-2 c = ?
+returns-2 c = search laws
 
 pair-requires-3 : tie.Need-pair-requires-3
-pair-requires-3 c κs = search needs
+pair-requires-3 c κs = search laws
 
 returns-3 : tie.Need-returns-3
-returns-3 c = ?
+returns-3 c = search laws
 
 sub-fitting : tie.Need-sub-fitting
-sub-fitting c = search needs
+sub-fitting c = search laws
 
 fitting-requires : tie.Need-fitting-requires
-fitting-requires c κs = search needs
+fitting-requires c κs = search laws
 
 put-data-requires : tie.Need-put-data-requires
-put-data-requires c κs = search needs
+put-data-requires c κs = search laws
 
 same-length : tie.Need-same-length
-same-length c = search needs
+same-length c = search laws
 
 returns-4 : tie.Need-returns-4
-returns-4 c = ?
+returns-4 c = search laws
 
 sub-left : tie.Need-sub-left
-sub-left c = search needs
+sub-left c = search laws
 
 add-left : tie.Need-add-left
-add-left c = search needs
+add-left c = search laws
 
 mul-sum-of-pairs : tie.Need-mul-sum-of-pairs
-mul-sum-of-pairs c = search needs
+mul-sum-of-pairs c = search laws
 
 add-sum-of-pairs : tie.Need-add-sum-of-pairs
-add-sum-of-pairs c = search needs
+add-sum-of-pairs c = search laws
 
 sum-of-pairs-requires : tie.Need-sum-of-pairs-requires
-sum-of-pairs-requires c κs = search needs
+sum-of-pairs-requires c κs = search laws
 
 same-length-2 : tie.Need-same-length-2
-same-length-2 c = search needs
+same-length-2 c = search laws
 
 returns-5 : tie.Need-returns-5
-returns-5 c = ?
+returns-5 c = search laws
 
 add-if6 : tie.Need-add-if6
-add-if6 c = search needs
+add-if6 c = search laws
 
 add-if6-2 : tie.Need-add-if6-2
-add-if6-2 c = search needs
+add-if6-2 c = search laws
 
 add-if6-3 : tie.Need-add-if6-3
-add-if6-3 c = search needs
+add-if6-3 c = search laws
 
 add-if6-4 : tie.Need-add-if6-4
-add-if6-4 c = search needs
+add-if6-4 c = search laws
 
 add-if6-5 : tie.Need-add-if6-5
-add-if6-5 c = search needs
+add-if6-5 c = search laws
 
 same-length-3 : tie.Need-same-length-3
-same-length-3 c = search needs
+same-length-3 c = search laws
 
 returns-6 : tie.Need-returns-6
-returns-6 c = ?
+returns-6 c = search laws
 
 mul-judged : tie.Need-mul-judged
-mul-judged c = search needs
+mul-judged c = search laws
 
 add-judged : tie.Need-add-judged
-add-judged c = search needs
+add-judged c = search laws
 
 judged-requires : tie.Need-judged-requires
-judged-requires c κs = search needs
+judged-requires c κs = search laws
 
 same-length-4 : tie.Need-same-length-4
-same-length-4 c = search needs
+same-length-4 c = search laws
 
 returns-7 : tie.Need-returns-7
-returns-7 c = ?
+returns-7 c = search laws
 
 pub take-record-spec : {M : Type 1} → statement M
 take-record-spec =
