@@ -14,7 +14,7 @@ use Rattle.refusals.specs.RefusalsLaws.{Begins}
 use Rattle.hextext.specs.Written.{recordText, textOf, textLength, writeImage}
 use Rattle.hexwrite.specs.WroteLaws.{Wrote, wrote-nothing, wrote-then}
 use Rattle.hexwrite.specs.RecordLaws.{WroteRecord, length-record}
-use Rattle.hexwrite.specs.TextLaws.{textFrom, text-none, text-more, length-from, length-text, length-short}
+use Rattle.hexwrite.specs.TextLaws.{textFrom, text-none, text-more, length-from, length-text, length-room}
 
 -- ---- the bytes that fill no record
 
@@ -62,6 +62,13 @@ module _ (x d₀ d : List ℕ) (start at : ℕ) (h : Writing x d₀ d start at) 
       let e = ap length (h .is) ∙ length-text x in
       omega arith
 
+  -- a part of what is left has room as one record
+  pub part-fits : (n : ℕ) → at + 12 + length (take n (drop start x)) * 2 ≤ length d
+  part-fits n =
+      let t = length-take n (drop start x) in
+      let e = length-from (length (drop start x)) start (drop start x) (omega arith) in
+      omega (arith, length-room (length (drop start x)), left, h .room, h .kept)
+
   -- a piece p written where the text of what is left begins with it
   written-piece : (p q d′ : List ℕ) → textFrom start (drop start x) ≡ p ++ q → Wrote at p d d′ → take (at + length p) d′ ++ q ≡ textOf x
   written-piece p q d′ e w = rw (w .is) (append-assoc (take at d) p q ∙ (rw e at (h .is)))
@@ -70,20 +77,8 @@ module _ (x d₀ d : List ℕ) (start at : ℕ) (h : Writing x d₀ d start at) 
     full : take (start + 16 - start) (drop start x) ≡ take 16 (drop start x)
     full = let e : start + 16 - start ≡ 16 = omega arith in rw e
 
-    full-length : length (take (start + 16 - start) (drop start x)) ≡ 16
-    full-length = rw full (omega (arith, length-take 16 (drop start x), length-drop start x))
-
     full-text : textFrom start (drop start x) ≡ recordText start 0 (take (start + 16 - start) (drop start x)) ++ textFrom (start + 16) (drop (start + 16) x)
     full-text = text-more start (drop start x) (omega (arith, length-drop start x)) ∙ rw (full, drop-drop 16 start x)
-
-    pub full-short : length (take (start + 16 - start) (drop start x)) < 256
-    full-short = omega (arith, full-length)
-
-    pub full-fits : at + 12 + length (take (start + 16 - start) (drop start x)) * 2 ≤ length d
-    full-fits =
-        let r = length-record start 0 (take (start + 16 - start) (drop start x)) in
-        let e = ap length full-text ∙ length-append (recordText start 0 (take (start + 16 - start) (drop start x))) (textFrom (start + 16) (drop (start + 16) x)) in
-        omega (arith, left, h .room, h .kept)
 
     pub writing-more : (next : ℕ) (d′ : List ℕ) → length d′ ≡ length d → WroteRecord at start 0 (take (start + 16 - start) (drop start x)) d next d′
         → Writing x d₀ d′ (start + 16) next
@@ -94,7 +89,7 @@ module _ (x d₀ d : List ℕ) (start at : ℕ) (h : Writing x d₀ d start at) 
           within = omega (arith, h .within);
           small = h .small;
           kept = same ∙ h .kept;
-          inside = omega (arith, w .follows, full-fits);
+          inside = omega (arith, w .follows, part-fits (start + 16 - start));
           room = h .room;
           is = rw e (written-piece (recordText start 0 (take (start + 16 - start) (drop start x))) (textFrom (start + 16) (drop (start + 16) x)) d′ full-text (w .wrote));
         }
@@ -102,18 +97,6 @@ module _ (x d₀ d : List ℕ) (start at : ℕ) (h : Writing x d₀ d start at) 
   module _ (k : length x - start < 16) where
     rest : take (length x - start) (drop start x) ≡ drop start x
     rest = take-all (length x - start) (drop start x) (le-of-eq (length-drop start x))
-
-    rest-length : length (take (length x - start) (drop start x)) ≡ length x - start
-    rest-length = rw rest (length-drop start x)
-
-    pub rest-short : length (take (length x - start) (drop start x)) < 16
-    rest-short = omega (arith, rest-length)
-
-    pub rest-fits : at + 12 + length (take (length x - start) (drop start x)) * 2 ≤ length d
-    rest-fits =
-        let l = length-drop start x in
-        let e = length-from (length (drop start x)) start (drop start x) (omega arith) in
-        omega (arith, rest-length, rw l at e, length-short (length x - start) k, left, h .room, h .kept)
 
     module _ (next : ℕ) (d′ : List ℕ) (same : length d′ ≡ length d) (w : WroteRest at start (take (length x - start) (drop start x)) d next d′) where
       rest-text : textFrom start (drop start x) ≡ w .piece ++ recordText 0 1 []

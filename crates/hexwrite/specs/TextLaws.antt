@@ -90,7 +90,7 @@ pub length-text : (x : List ℕ) → length (textOf x) ≡ textLength (length x)
 unfolding textOf textFrom
 length-text x = length-from (length x) 0 x (omega arith)
 
--- the bytes that fill no record leave room for one of them and no more
-pub length-short : (n : ℕ) → n < 16 → 12 + n * 2 ≤ textLength n
-length-short n h =
-    split n 0 (λ (k : n ≤ 0). let e : n ≡ 0 = omega arith in rw e (omega (arith, length-whole 0 refl))) (λ (k : 0 < n). omega (arith, length-few n k h))
+-- room for all the bytes in one record is no more
+pub length-room : (n : ℕ) → 12 + n * 2 ≤ textLength n
+length-room n =
+    split (n % 16) 0 (λ (z : n % 16 ≤ 0). omega (arith, length-whole n (omega arith))) (λ (z : 0 < n % 16). omega (arith, length-part n (λ e. omega arith)))

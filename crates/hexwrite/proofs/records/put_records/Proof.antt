@@ -1,11 +1,12 @@
 use borrow.Author.Needs.{needs}
 use Prim.Native.Nat.{_-_}
-use lib.ListN.{length}
-use Rattle.hexwrite.specs.RecordsLaws.{Writing, writing-first, full-short, full-fits, writing-more, rest-short, rest-fits, end-fits, writing-end}
+use native.Mathlib.Omega.{arith}
+use lib.ListN.{length, length-take}
+use Rattle.hexwrite.specs.RecordsLaws.{Writing, writing-first, part-fits, writing-more, end-fits, writing-end}
 use Rattle.hexwrite.proofs.records.put_records.Statement.{statement}
 use Rattle.hexwrite.proofs.records.put_records.Tie as tie
 
-ruleset laws = (needs, writing-first, full-short, full-fits, writing-more, rest-short, rest-fits, end-fits, writing-end)
+ruleset laws = (needs, writing-first, part-fits, writing-more, end-fits, writing-end)
 
 abbrev Inv-loop : tie.InvT-loop
 Inv-loop pairs image text₀ start₀ at₀ text start at = Writing image text₀ text start at
@@ -32,7 +33,7 @@ part-put-record-end : tie.Need-part-put-record-end Inv-loop μ-loop
 part-put-record-end c = search laws
 
 put-record-requires : tie.Need-put-record-requires Inv-loop μ-loop
-put-record-requires c κs = search laws
+put-record-requires c κs = (search needs, search needs, simp length-take (omega arith), search laws)
 
 loop-less : tie.Need-loop-less Inv-loop μ-loop
 loop-less c = search laws
@@ -50,7 +51,7 @@ part-put-rest-end : tie.Need-part-put-rest-end Inv-loop μ-loop
 part-put-rest-end c = search laws
 
 put-rest-requires : tie.Need-put-rest-requires Inv-loop μ-loop
-put-rest-requires c κs = search laws
+put-rest-requires c κs = (search needs, search needs, simp length-take (omega arith), search laws)
 
 slice-aggregate-put-record : tie.Need-slice-aggregate-put-record Inv-loop μ-loop
 slice-aggregate-put-record c = search laws
