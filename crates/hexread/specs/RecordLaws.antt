@@ -12,16 +12,10 @@ use Rattle.laws.specs.Sums.{total}
 use Rattle.hextext.specs.declared.Record.{Record}
 use Rattle.hextext.specs.declared.Record.the-variants.{Data, End, Fault}
 use Rattle.hextext.specs.Record.{allDigits, bytesOf, recordBytes, countOf, dataOf, formed, summed, typed, judge}
-use Rattle.hextext.specs.RecordLaws.{byteAt, allDigits-end, bytes-total-end, formed-at, recordBytes-head, length-bytesOf}
+use Rattle.hextext.specs.RecordLaws.{byteAt, allDigits-end, bytes-total-more, bytes-total-end, formed-at, recordBytes-head, length-bytesOf}
 use Rattle.hexread.specs.DigitsLaws.{Pair, pair-byte, pair-digits, pair-none}
-use Rattle.hexread.specs.PairsLaws.{Put, Summed}
+use Rattle.hexread.specs.PairsLaws.{TookData}
 use Rattle.hexread.specs.TypedLaws.{end-empty, says-data}
-
--- as many of n bytes as are written, all where they have room
-pub record Fitting (n space m : ℕ) : Type 0 where
-  pub most : m ≤ n
-  pub fits : m ≤ space
-  pub all : n ≤ space → m ≡ n
 
 -- a line with a colon and a good count n, as long as n says
 pub record Counted (l : List ℕ) (n : ℕ) : Type 0 where
@@ -86,40 +80,50 @@ module _ (l : List ℕ) (n : ℕ) (v : Counted l n) where
           digits-kind : allDigits (drop 1 l) ≡ allDigits (drop 9 l)
           digits-kind = digits-low ∙ pair-digits l 7 kind pk (omega (arith, long)) hk
 
-          module _ (m s : ℕ) (f : Fitting n (room - at) m) (w : Put l m d d′ at s) where
+          module _ (s : ℕ) (w : TookData l n d d′ at (room - at) s) where
             pub taken-bad-data : 65536 ≤ s → Taken (Fault 1) l d d′ room at
             taken-bad-data h = no-digits (digits-kind ∙ w .sum .bad h)
 
-            module _ (hs : s < 65536) (z : ℕ) (c : Summed l (9 + m * 2) (n - m + 1) z) where
-              pub taken-bad-rest : 65536 ≤ z → Taken (Fault 1) l d d′ room at
-              taken-bad-rest h = no-digits (digits-kind ∙ w .sum .good hs .digits ∙ c .bad h)
+            module _ (hs : s < 65536) where
+              digits-data : allDigits (drop 1 l) ≡ allDigits (drop (9 + n * 2) l)
+              digits-data = digits-kind ∙ w .sum .good hs .digits
 
-              module _ (hz : z < 65536) where
-                all-passed : 9 + m * 2 + (n - m + 1) * 2 ≡ length l
-                all-passed = omega (arith, v .long, f .most)
+              pub taken-bad-check : (check : ℕ) → Pair l (9 + n * 2) check → 256 ≤ check → Taken (Fault 1) l d d′ room at
+              taken-bad-check check p h = no-digits (digits-data ∙ pair-none l (9 + n * 2) check p (omega (arith, v .long)) h)
 
+              module _ (check : ℕ) (pc : Pair l (9 + n * 2) check) (hc : check < 256) where
                 digits-all : allDigits (drop 1 l) ≡ true
-                digits-all = digits-kind ∙ w .sum .good hs .digits ∙ c .good hz .digits ∙ allDigits-end l (9 + m * 2 + (n - m + 1) * 2) (omega (arith, all-passed))
+                digits-all =
+                    digits-data ∙ pair-digits l (9 + n * 2) check pc (omega (arith, v .long)) hc ∙ allDigits-end l (9 + n * 2 + 2) (omega (arith, v .long))
 
-                total-of-pairs : total (recordBytes l) ≡ n + high + low + kind + s + z
+                total-of-pairs : total (recordBytes l) ≡ n + high + low + kind + s + check
                 unfolding total
                 total-of-pairs =
-                    let e = bytes-total-end l (9 + m * 2 + (n - m + 1) * 2) (omega (arith, all-passed)) in
+                    let e = bytes-total-more l (9 + n * 2) (omega (arith, v .long)) in
+                    let z = bytes-total-end l (9 + n * 2 + 2) (omega (arith, v .long)) in
                     rw (recordBytes-head l (omega (arith, long)))
-                    (omega (arith, v .counts, pair-byte l 3 high ph hh, pair-byte l 5 low pl hl, pair-byte l 7 kind pk hk, w .sum .good hs .sum, c .good hz .sum, e))
+                    (omega (
+                      arith,
+                      v .counts,
+                      pair-byte l 3 high ph hh,
+                      pair-byte l 5 low pl hl,
+                      pair-byte l 7 kind pk hk,
+                      w .sum .good hs .sum,
+                      pair-byte l (9 + n * 2) check pc hc,
+                    ))
 
-                pub taken-bad-sum : ((n + high + low + kind + s + z) % 256 ≡ 0 → ⊥) → Taken (Fault 2) l d d′ room at
+                pub taken-bad-sum : ((n + high + low + kind + s + check) % 256 ≡ 0 → ⊥) → Taken (Fault 2) l d d′ room at
                 unfolding judge summed
                 taken-bad-sum h =
-                    taken-fault 2 l d d′ room at (rw (formed-by-digits true digits-all, total-of-pairs, ne-eqb ((n + high + low + kind + s + z) % 256) 0 h))
+                    taken-fault 2 l d d′ room at (rw (formed-by-digits true digits-all, total-of-pairs, ne-eqb ((n + high + low + kind + s + check) % 256) 0 h))
 
-                judge-typed : (n + high + low + kind + s + z) % 256 ≡ 0 → judge room at l ≡ typed room at n (high * 256 + low) kind
+                judge-typed : (n + high + low + kind + s + check) % 256 ≡ 0 → judge room at l ≡ typed room at n (high * 256 + low) kind
                 unfolding judge summed
                 judge-typed h =
                     rw (
                       formed-by-digits true digits-all,
                       total-of-pairs,
-                      eq-eqb ((n + high + low + kind + s + z) % 256) 0 h,
+                      eq-eqb ((n + high + low + kind + s + check) % 256) 0 h,
                       recordBytes-head l (omega (arith, long)),
                       ← v .counts,
                       ← pair-byte l 3 high ph hh,
@@ -127,17 +131,17 @@ module _ (l : List ℕ) (n : ℕ) (v : Counted l n) where
                       ← pair-byte l 7 kind pk hk,
                     )
 
-                pub taken-typed : (r : Record) → (n + high + low + kind + s + z) % 256 ≡ 0 → r ≡ typed room at n (high * 256 + low) kind
+                pub taken-typed : (r : Record) → (n + high + low + kind + s + check) % 256 ≡ 0 → r ≡ typed room at n (high * 256 + low) kind
                     → at ≤ room → room ≤ length d → Taken r l d d′ room at
-                taken-typed r h e hr hd =
+                taken-typed r h e within roomy =
                     record {
                       judged = e ∙ sym (judge-typed h);
-                      wrote = λ q t.
-                          let u = says-data room at l q (judge-typed h ∙ sym e ∙ t) in
-                          let same-count : m ≡ q = omega (arith, v .long, u .long, f .all (omega (arith, v .long, u .long, u .fits))) in
-                          rw (w .wrote hs, same-count, data-from-nine l q (u .long) (u .counts))
-                          (take-paste d at (bytesOf (drop 9 l)) q (omega (arith, u .fits)) (length-bytesOf l 9 q (omega (arith, u .long))));
+                      wrote = λ m t.
+                          let u = says-data room at l m (judge-typed h ∙ sym e ∙ t) in
+                          let same : n ≡ m = omega (arith, v .long, u .long) in
+                          rw (w .wrote (omega (arith, u .fits)) hs, same, data-from-nine l m (u .long) (u .counts))
+                          (take-paste d at (bytesOf (drop 9 l)) m (omega (arith, u .fits)) (length-bytesOf l 9 m (omega (arith, u .long))));
                       same = λ t.
-                          let none : m ≡ 0 = omega (arith, f .most, end-empty room at n (high * 256 + low) kind (sym e ∙ t)) in
-                          rw (w .wrote hs, none) (sym (paste-zero d at (bytesOf (drop 9 l))));
+                          let none : n ≡ 0 = end-empty room at n (high * 256 + low) kind (sym e ∙ t) in
+                          rw (w .wrote (omega arith) hs, none) (sym (paste-zero d at (bytesOf (drop 9 l))));
                     }

@@ -3,8 +3,8 @@ ghost use Prim.Native.Nat.{_+_, _*_, _≤_};
 ghost use lib.ListN.{length};
 ghost use Rattle.hextext.specs.Record.{typed};
 ghost use Rattle.hexread.specs.DigitsLaws.{Valued};
-ghost use Rattle.hexread.specs.PairsLaws.{Put, Summed};
-ghost use Rattle.hexread.specs.RecordLaws.{Fitting, Counted, Taken};
+ghost use Rattle.hexread.specs.PairsLaws.{Summed, Put, TookData};
+ghost use Rattle.hexread.specs.RecordLaws.{Counted, Taken};
 use crate::digits::pair;
 use hextext::Record;
 
@@ -27,15 +27,15 @@ fn put_data(values: &[usize; 256], line: &[u8], count: usize, image: &mut [u8], 
     sum
 }
 
-// The sum of the bytes that `count` pairs spell from `start` on, or 65536.
-fn sum_of_pairs(values: &[usize; 256], line: &[u8], start: usize, count: usize) -> usize
-    requires { ⌜ Valued (now values) × (start + count * 2 ≤ length (now line)) × (count ≤ 256) ⌝ }
-    ensures { λ r. ⌜ Summed (now (line .entry)) start count r ⌝ }
+// Their sum, or 65536, with nothing written.
+fn sum_data(values: &[usize; 256], line: &[u8], count: usize) -> usize
+    requires { ⌜ Valued (now values) × (11 + count * 2 ≤ length (now line)) × (count ≤ 255) ⌝ }
+    ensures { λ r. ⌜ Summed (now (line .entry)) count r ⌝ }
 {
     let mut sum: usize = 0;
     let mut i: usize = 0;
     while i < count {
-        let byte = pair(values, line, start + i * 2);
+        let byte = pair(values, line, 9 + i * 2);
         if 256 <= byte {
             return 65536;
         }
@@ -43,6 +43,24 @@ fn sum_of_pairs(values: &[usize; 256], line: &[u8], start: usize, count: usize) 
         i += 1;
     }
     sum
+}
+
+// The data's sum, or 65536, with the data in the image at `to` where they have room.
+fn take_data(
+    values: &[usize; 256],
+    line: &[u8],
+    count: usize,
+    image: &mut [u8],
+    to: usize,
+    space: usize,
+) -> usize
+    requires { ⌜ Valued (now values) × (11 + count * 2 ≤ length (now line)) × (count ≤ 255) × (to + space ≤ length (now image)) ⌝ }
+    ensures { λ r. ⌜ TookData (now (line .entry)) count (now (image .entry)) (now (image .exit)) to space r ⌝ }
+{
+    if count <= space {
+        return put_data(values, line, count, image, to);
+    }
+    sum_data(values, line, count)
 }
 
 // Type, count, address and room of a record whose form and checksum are good.
@@ -74,13 +92,6 @@ fn judged(room: usize, at: usize, count: usize, address: usize, kind: usize) -> 
     Record::End
 }
 
-// As many of `count` bytes as are written: all, or none where they have no room.
-fn fitting(count: usize, space: usize) -> usize
-    ensures { λ r. ⌜ Fitting count space r ⌝ }
-{
-    if count <= space { count } else { 0 }
-}
-
 // The record of a line that is as long as its count says, judged, its data in the image where they have room.
 pub fn take_record(
     values: &[usize; 256],
@@ -105,17 +116,15 @@ pub fn take_record(
     if 256 <= kind {
         return Record::Fault(1);
     }
-    let put = fitting(count, room - at);
-    let data = put_data(values, line, put, image, at);
+    let data = take_data(values, line, count, image, at, room - at);
     if 65536 <= data {
         return Record::Fault(1);
     }
-    let left = count - put + 1;
-    let rest = sum_of_pairs(values, line, 9 + put * 2, left);
-    if 65536 <= rest {
+    let check = pair(values, line, 9 + count * 2);
+    if 256 <= check {
         return Record::Fault(1);
     }
-    if (count + high + low + kind + data + rest) % 256 != 0 {
+    if (count + high + low + kind + data + check) % 256 != 0 {
         return Record::Fault(2);
     }
     judged(room, at, count, high * 256 + low, kind)

@@ -1,9 +1,9 @@
 use borrow.Author.Needs.{needs}
-use Rattle.hexread.specs.RecordLaws.{taken-bad-high, taken-bad-low, taken-bad-kind, taken-bad-data, taken-bad-rest, taken-bad-sum, taken-typed}
+use Rattle.hexread.specs.RecordLaws.{taken-bad-high, taken-bad-low, taken-bad-kind, taken-bad-data, taken-bad-check, taken-bad-sum, taken-typed}
 use Rattle.hexread.proofs.record.take_record.Statement.{statement}
 use Rattle.hexread.proofs.record.take_record.Tie as tie
 
-ruleset laws = (needs, taken-bad-high, taken-bad-low, taken-bad-kind, taken-bad-data, taken-bad-rest, taken-bad-sum, taken-typed)
+ruleset laws = (needs, taken-bad-high, taken-bad-low, taken-bad-kind, taken-bad-data, taken-bad-check, taken-bad-sum, taken-typed)
 
 pair-requires : tie.Need-pair-requires
 pair-requires c κs = search laws
@@ -23,14 +23,11 @@ pair-requires-3 c κs = search laws
 returns-3 : tie.Need-returns-3
 returns-3 c = search laws
 
-sub-fitting : tie.Need-sub-fitting
-sub-fitting c = search laws
+sub-take-data : tie.Need-sub-take-data
+sub-take-data c = search laws
 
-fitting-requires : tie.Need-fitting-requires
-fitting-requires c κs = search laws
-
-put-data-requires : tie.Need-put-data-requires
-put-data-requires c κs = search laws
+take-data-requires : tie.Need-take-data-requires
+take-data-requires c κs = search laws
 
 same-length : tie.Need-same-length
 same-length c = search laws
@@ -38,20 +35,14 @@ same-length c = search laws
 returns-4 : tie.Need-returns-4
 returns-4 c = search laws
 
-sub-left : tie.Need-sub-left
-sub-left c = search laws
+mul-pair : tie.Need-mul-pair
+mul-pair c = search laws
 
-add-left : tie.Need-add-left
-add-left c = search laws
+add-pair : tie.Need-add-pair
+add-pair c = search laws
 
-mul-sum-of-pairs : tie.Need-mul-sum-of-pairs
-mul-sum-of-pairs c = search laws
-
-add-sum-of-pairs : tie.Need-add-sum-of-pairs
-add-sum-of-pairs c = search laws
-
-sum-of-pairs-requires : tie.Need-sum-of-pairs-requires
-sum-of-pairs-requires c κs = search laws
+pair-requires-4 : tie.Need-pair-requires-4
+pair-requires-4 c κs = (search needs, search needs)
 
 same-length-2 : tie.Need-same-length-2
 same-length-2 c = search laws
@@ -105,16 +96,13 @@ take-record-spec =
     returns-2
     pair-requires-3
     returns-3
-    sub-fitting
-    fitting-requires
-    put-data-requires
+    sub-take-data
+    take-data-requires
     same-length
     returns-4
-    sub-left
-    add-left
-    mul-sum-of-pairs
-    add-sum-of-pairs
-    sum-of-pairs-requires
+    mul-pair
+    add-pair
+    pair-requires-4
     same-length-2
     returns-5
     add-if6

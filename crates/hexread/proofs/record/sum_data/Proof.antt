@@ -1,16 +1,16 @@
 use borrow.Author.Needs.{needs}
 use Prim.Native.Nat.{_-_}
 use Rattle.hexread.specs.PairsLaws.{Summing, summing-first, summing-more, summing-stop, summing-end}
-use Rattle.hexread.proofs.record.sum_of_pairs.Statement.{statement}
-use Rattle.hexread.proofs.record.sum_of_pairs.Tie as tie
+use Rattle.hexread.proofs.record.sum_data.Statement.{statement}
+use Rattle.hexread.proofs.record.sum_data.Tie as tie
 
 ruleset laws = (needs, summing-first, summing-more, summing-stop, summing-end)
 
 abbrev Inv-loop : tie.InvT-loop
-Inv-loop values line start count sum₀ i₀ sum i = Summing line start count sum i
+Inv-loop values line count sum₀ i₀ sum i = Summing line count sum i
 
 abbrev μ-loop : tie.MeasureT-loop
-μ-loop values line start count sum₀ i₀ sum i = count - i
+μ-loop values line count sum₀ i₀ sum i = count - i
 
 loop-holds : tie.Need-loop-holds Inv-loop μ-loop
 loop-holds c = search laws
@@ -42,8 +42,8 @@ loop-again c = search laws
 returns-2 : tie.Need-returns-2 Inv-loop μ-loop
 returns-2 c = search laws
 
-pub sum-of-pairs-spec : {M : Type 1} → statement M
-sum-of-pairs-spec =
+pub sum-data-spec : {M : Type 1} → statement M
+sum-data-spec =
     tie.close
     (tie.spec
     Inv-loop
