@@ -54,9 +54,6 @@ value-in-table t c r v h e = record { is = e ∙ v .at c h; most = omega (arith,
 pub record Pair (l : List ℕ) (i b : ℕ) : Type 0 where
   pub is : b ≡ valueOf (getD l i 0) * 16 + valueOf (getD l (i + 1) 0)
 
-pub pair-of-values : (l : List ℕ) (i high low : ℕ) → Value (getD l i 0) high → Value (getD l (i + 1) 0) low → Pair l i (high * 16 + low)
-pair-of-values l i high low h k = record { is = omega (arith, h .is, k .is) }
-
 module _ (l : List ℕ) (i b : ℕ) (p : Pair l i b) where
   pair-high : b < 256 → digit (getD l i 0) < 16
   pair-high h = split 16 (digit (getD l i 0)) (λ k. omega (arith, p .is, value-no (getD l i 0) k)) (λ k. k)

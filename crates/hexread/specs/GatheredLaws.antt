@@ -11,7 +11,7 @@ use lib.Seq.{drop-cons, take-suc, getD-take, getD-drop, take-take, length-take-l
 use borrow.Author.Tests.{eq-eqb, ne-eqb, eqb-true}
 use Rattle.laws.specs.Cases.{split, decide}
 use Rattle.refusals.specs.Refusals.{refused, refusal}
-use Rattle.hextext.specs.Record.{digit, allDigits, recordBytes, countOf, dataOf, formed, judge}
+use Rattle.hextext.specs.Record.{allDigits, recordBytes, countOf, dataOf, formed, judge}
 use Rattle.hextext.specs.RecordLaws.{byteAt, digit-low, allDigits-at, recordBytes-head, formed-long, formed-length, formed-digits, formed-colon, judge-unformed}
 use Rattle.hextext.specs.Text.{bare, after, reading}
 

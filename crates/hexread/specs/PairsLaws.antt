@@ -37,46 +37,30 @@ pub record Summed (l : List ℕ) (n r : ℕ) : Type 0 where
   pub good : r < 65536 → Passed l n r
   pub bad : 65536 ≤ r → allDigits (drop 9 l) ≡ false
 
--- after i of them
-pub record Summing (l : List ℕ) (n s i : ℕ) : Type 0 where
-  pub within : i ≤ n
-  pub small : s ≤ 255 * i
-  pub passed : Passed l i s
-
-pub summing-first : (l : List ℕ) (n : ℕ) → Summing l n 0 0
-summing-first l n = record { within = omega arith; small = omega arith; passed = passed-none l }
-
-module _ (l : List ℕ) (n s i : ℕ) (h : Summing l n s i) (long : 11 + n * 2 ≤ length l) (most : n ≤ 255) where
-  pub summing-more : (b : ℕ) → i < n → Pair l (9 + i * 2) b → b < 256 → Summing l n (s + b) (i + 1)
-  summing-more b k p q = record { within = omega arith; small = omega arith; passed = passed-more l i s b (h .passed) p (omega arith) q }
-
-  pub summing-stop : (b : ℕ) → i < n → Pair l (9 + i * 2) b → 256 ≤ b → Summed l n 65536
-  summing-stop b k p q = record { good = λ z. absurd (omega arith); bad = λ z. passed-stop l i s b (h .passed) p (omega arith) q }
-
-  pub summing-end : n ≤ i → Summed l n s
-  summing-end k =
-      let e : i ≡ n = omega arith in
-      record { good = λ z. rw e at (h .passed); bad = λ z. absurd (omega arith) }
-
 -- ---- the same, with their bytes in the image
 
 pub record Put (l : List ℕ) (n : ℕ) (d d′ : List ℕ) (to r : ℕ) : Type 0 where
   pub sum : Summed l n r
   pub wrote : r < 65536 → d′ ≡ paste d to (bytesOf (drop 9 l)) n
 
+-- after i of them
 pub record Putting (l : List ℕ) (n : ℕ) (d d′ : List ℕ) (to s i : ℕ) : Type 0 where
-  pub sum : Summing l n s i
+  pub within : i ≤ n
+  pub small : s ≤ 255 * i
+  pub passed : Passed l i s
   pub wrote : d′ ≡ paste d to (bytesOf (drop 9 l)) i
   pub kept : length d′ ≡ length d
 
 pub putting-first : (l : List ℕ) (n : ℕ) (d : List ℕ) (to : ℕ) → Putting l n d d to 0 0
-putting-first l n d to = record { sum = summing-first l n; wrote = paste-zero d to (bytesOf (drop 9 l)); kept = refl }
+putting-first l n d to = record { within = omega arith; small = omega arith; passed = passed-none l; wrote = paste-zero d to (bytesOf (drop 9 l)); kept = refl }
 
 module _ (l : List ℕ) (n : ℕ) (d d′ : List ℕ) (to s i : ℕ) (h : Putting l n d d′ to s i) (long : 11 + n * 2 ≤ length l) (most : n ≤ 255) (room : to + n ≤ length d) where
   pub putting-more : (b : ℕ) → i < n → Pair l (9 + i * 2) b → b < 256 → Putting l n d (set d′ (to + i) b) to (s + b) (i + 1)
   putting-more b k p q =
       record {
-        sum = summing-more l n s i (h .sum) long most b k p q;
+        within = omega arith;
+        small = omega arith;
+        passed = passed-more l i s b (h .passed) p (omega arith) q;
         wrote =
             rw (h .wrote, pair-byte l (9 + i * 2) b p q, ← getD-bytesOf l 9 i (omega arith), add-one i)
             (paste-suc d to (bytesOf (drop 9 l)) i 0 (omega arith) (omega (arith, length-bytesOf l 9 n (omega arith))));
@@ -84,12 +68,19 @@ module _ (l : List ℕ) (n : ℕ) (d d′ : List ℕ) (to s i : ℕ) (h : Puttin
       }
 
   pub putting-stop : (b : ℕ) → i < n → Pair l (9 + i * 2) b → 256 ≤ b → Put l n d d′ to 65536
-  putting-stop b k p q = record { sum = summing-stop l n s i (h .sum) long most b k p q; wrote = λ z. absurd (omega arith) }
+  putting-stop b k p q =
+      record {
+        sum = record { good = λ z. absurd (omega arith); bad = λ z. passed-stop l i s b (h .passed) p (omega arith) q };
+        wrote = λ z. absurd (omega arith);
+      }
 
   pub putting-end : n ≤ i → Put l n d d′ to s
   putting-end k =
-      let e : i ≡ n = omega (arith, h .sum .within) in
-      record { sum = summing-end l n s i (h .sum) long most k; wrote = λ z. rw e at (h .wrote) }
+      let e : i ≡ n = omega arith in
+      record {
+        sum = record { good = λ z. rw e at (h .passed); bad = λ z. absurd (omega arith) };
+        wrote = λ z. rw e at (h .wrote);
+      }
 
 -- ---- their bytes in the image where they have room
 
@@ -101,5 +92,5 @@ module _ (l : List ℕ) (n : ℕ) (d : List ℕ) (to space r : ℕ) where
   pub took-put : (d′ : List ℕ) → Put l n d d′ to r → TookData l n d d′ to space r
   took-put d′ p = record { sum = p .sum; wrote = λ h. p .wrote }
 
-  pub took-none : space < n → Summed l n r → TookData l n d d to space r
-  took-none h s = record { sum = s; wrote = λ k. absurd (omega arith) }
+  pub took-none : (e e′ : List ℕ) → space < n → Put l n e e′ 0 r → TookData l n d d to space r
+  took-none e e′ h p = record { sum = p .sum; wrote = λ k. absurd (omega arith) }

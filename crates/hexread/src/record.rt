@@ -3,12 +3,13 @@ ghost use Prim.Native.Nat.{_+_, _*_, _≤_};
 ghost use lib.ListN.{length};
 ghost use Rattle.hextext.specs.Record.{typed};
 ghost use Rattle.hexread.specs.DigitsLaws.{Valued};
-ghost use Rattle.hexread.specs.PairsLaws.{Summed, Put, TookData};
+ghost use Rattle.hexread.specs.PairsLaws.{Put, TookData};
 ghost use Rattle.hexread.specs.RecordLaws.{Counted, Taken};
 use crate::digits::pair;
 use hextext::Record;
 
-// Writes the bytes that `count` pairs spell from the tenth character on into the image at `to`. Their sum, or 65536.
+// Writes the bytes that `count` pairs spell from the tenth character on into the image at `to`. Their sum, or 65536 where
+// a character is no digit.
 fn put_data(values: &[usize; 256], line: &[u8], count: usize, image: &mut [u8], to: usize) -> usize
     requires { ⌜ Valued (now values) × (11 + count * 2 ≤ length (now line)) × (count ≤ 255) × (to + count ≤ length (now image)) ⌝ }
     ensures { λ r. ⌜ Put (now (line .entry)) count (now (image .entry)) (now (image .exit)) to r ⌝ }
@@ -27,25 +28,7 @@ fn put_data(values: &[usize; 256], line: &[u8], count: usize, image: &mut [u8], 
     sum
 }
 
-// Their sum, or 65536, with nothing written.
-fn sum_data(values: &[usize; 256], line: &[u8], count: usize) -> usize
-    requires { ⌜ Valued (now values) × (11 + count * 2 ≤ length (now line)) × (count ≤ 255) ⌝ }
-    ensures { λ r. ⌜ Summed (now (line .entry)) count r ⌝ }
-{
-    let mut sum: usize = 0;
-    let mut i: usize = 0;
-    while i < count {
-        let byte = pair(values, line, 9 + i * 2);
-        if 256 <= byte {
-            return 65536;
-        }
-        sum += byte;
-        i += 1;
-    }
-    sum
-}
-
-// The data's sum, or 65536, with the data in the image at `to` where they have room.
+// The same where they have room; where not, the image stays.
 fn take_data(
     values: &[usize; 256],
     line: &[u8],
@@ -60,7 +43,8 @@ fn take_data(
     if count <= space {
         return put_data(values, line, count, image, to);
     }
-    sum_data(values, line, count)
+    let mut spare = [0u8; 255];
+    put_data(values, line, count, &mut spare, 0)
 }
 
 // Type, count, address and room of a record whose form and checksum are good.

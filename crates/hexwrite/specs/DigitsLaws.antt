@@ -15,6 +15,7 @@ use Rattle.hexwrite.specs.WroteLaws.{Wrote, wrote-nothing, wrote-charact
 
 -- ---- a digit
 
+-- r is the character of n
 pub record Digit (n r : ℕ) : Type 0 where
   pub is : r ≡ hexDigit n
   pub small : r < 128
@@ -30,15 +31,13 @@ module _ (n : ℕ) where
 
 -- ---- the table
 
-abbrev pairOf : ℕ → ℕ
-pairOf b = hexDigit (b / 16) + hexDigit (b % 16) * 256
-
 -- v holds the two characters of the byte b
 pub record Characters (b v : ℕ) : Type 0 where
   pub first : v % 256 ≡ hexDigit (b / 16)
   pub second : v / 256 ≡ hexDigit (b % 16)
   pub small : v / 256 < 128
 
+-- a table of these
 pub record Spelled (t : List ℕ) : Type 0 where
   pub at : (b : ℕ) → b < 256 → Characters b (getD t b 0)
 

@@ -1,5 +1,5 @@
 -- The records of an image in order: what the loop over the full ones keeps, the rest, and the answer.
-use mathlib.Core.Path.{_≡_, refl, sym, ap, _∙_}
+use mathlib.Core.Path.{_≡_, refl, ap, _∙_}
 use mathlib.Core.List.{List, [], _++_, append-assoc}
 use Prim.Native.Nat.{ℕ, _+_, _-_, _*_, _≤_, _<_}
 use native.Mathlib.Omega.{arith}
@@ -12,7 +12,7 @@ use Rattle.refusals.specs.declared.Filled.the-variants.{Length, Refused}
 use Rattle.refusals.specs.Refusals.{refusal}
 use Rattle.refusals.specs.RefusalsLaws.{Begins}
 use Rattle.hextext.specs.Written.{recordText, textOf, textLength, writeImage}
-use Rattle.hexwrite.specs.WroteLaws.{Wrote, wrote-nothing, wrote-then}
+use Rattle.hexwrite.specs.WroteLaws.{Wrote, wrote-nothing}
 use Rattle.hexwrite.specs.RecordLaws.{WroteRecord, length-record}
 use Rattle.hexwrite.specs.TextLaws.{textFrom, text-none, text-more, length-from, length-text, length-room}
 

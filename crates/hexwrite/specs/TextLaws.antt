@@ -4,7 +4,6 @@ use mathlib.Core.List.{List, [], _∷_, _++_}
 use Prim.Native.Nat.{ℕ, zero, suc, _+_, _*_, _/_, _%_, _≤_, _<_}
 use native.Mathlib.Omega.{arith}
 use lib.ListN.{length, take, drop, length-append, length-take, length-drop}
-use lib.Seq.{take-all}
 use borrow.Author.Tests.{eq-eqb, ne-eqb}
 use Rattle.laws.specs.Cases.{split}
 use Rattle.hextext.specs.Written.{recordText, writing, textOf, textLength}
@@ -90,7 +89,7 @@ pub length-text : (x : List ℕ) → length (textOf x) ≡ textLength (length x)
 unfolding textOf textFrom
 length-text x = length-from (length x) 0 x (omega arith)
 
--- room for all the bytes in one record is no more
+-- a record of all the bytes would be no longer
 pub length-room : (n : ℕ) → 12 + n * 2 ≤ textLength n
 length-room n =
     split (n % 16) 0 (λ (z : n % 16 ≤ 0). omega (arith, length-whole n (omega arith))) (λ (z : 0 < n % 16). omega (arith, length-part n (λ e. omega arith)))

@@ -14,12 +14,22 @@ same-length c = search laws
 returns : tie.Need-returns
 returns c = search laws
 
-sum-data-requires : tie.Need-sum-data-requires
-sum-data-requires c κs = search laws
+slice-aggregate-put-data : tie.Need-slice-aggregate-put-data
+slice-aggregate-put-data c = search laws
+
+put-data-requires-2 : tie.Need-put-data-requires-2
+put-data-requires-2 c κs = search laws
 
 returns-2 : tie.Need-returns-2
 returns-2 c = search laws
 
 pub take-data-spec : {M : Type 1} → statement M
 take-data-spec =
-    tie.close (tie.spec put-data-requires same-length returns sum-data-requires returns-2)
+    tie.close
+    (tie.spec
+    put-data-requires
+    same-length
+    returns
+    slice-aggregate-put-data
+    put-data-requires-2
+    returns-2)
