@@ -24,15 +24,15 @@ module _ (room at count address kind : ℕ) where
   unfolding typed
   typed-astray k n a = sym (simp (eq-eqb kind 0 k, lt-ltb 0 count (positive n), ne-eqb address at a))
 
+  pub typed-full : kind ≡ 0 → (count ≡ 0 → ⊥) → address ≡ at → room - at < count → Fault 4 ≡ typed room at count address kind
+  unfolding typed
+  typed-full k n a r = sym (simp (eq-eqb kind 0 k, lt-ltb 0 count (positive n), eq-eqb address at a, lt-leb (at + count) room (omega arith)))
+
   pub typed-data : kind ≡ 0 → (count ≡ 0 → ⊥) → address ≡ at → count ≤ room - at → Data count ≡ typed room at count address kind
   unfolding typed
   typed-data k n a r =
       let some = positive n in
       sym (simp (eq-eqb kind 0 k, lt-ltb 0 count some, eq-eqb address at a, le-leb (at + count) room (omega arith)))
-
-  pub typed-full : kind ≡ 0 → (count ≡ 0 → ⊥) → address ≡ at → room - at < count → Fault 4 ≡ typed room at count address kind
-  unfolding typed
-  typed-full k n a r = sym (simp (eq-eqb kind 0 k, lt-ltb 0 count (positive n), eq-eqb address at a, lt-leb (at + count) room (omega arith)))
 
   pub typed-other : (kind ≡ 0 → ⊥) → (kind ≡ 1 → ⊥) → Fault 3 ≡ typed room at count address kind
   unfolding typed

@@ -59,10 +59,10 @@ fn judged(room: usize, at: usize, count: usize, address: usize, kind: usize) -> 
         if address != at {
             return Record::Fault(3);
         }
-        if count <= room - at {
-            return Record::Data(count);
+        if room - at < count {
+            return Record::Fault(4);
         }
-        return Record::Fault(4);
+        return Record::Data(count);
     }
     if kind != 1 {
         return Record::Fault(3);

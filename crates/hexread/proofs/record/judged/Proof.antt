@@ -1,9 +1,9 @@
 use borrow.Author.Needs.{needs}
-use Rattle.hexread.specs.TypedLaws.{typed-empty, typed-astray, typed-data, typed-full, typed-other, typed-long, typed-far, typed-end}
+use Rattle.hexread.specs.TypedLaws.{typed-empty, typed-astray, typed-full, typed-data, typed-other, typed-long, typed-far, typed-end}
 use Rattle.hexread.proofs.record.judged.Statement.{statement}
 use Rattle.hexread.proofs.record.judged.Tie as tie
 
-ruleset laws = (needs, typed-empty, typed-astray, typed-data, typed-full, typed-other, typed-long, typed-far, typed-end)
+ruleset laws = (needs, typed-empty, typed-astray, typed-full, typed-data, typed-other, typed-long, typed-far, typed-end)
 
 returns : tie.Need-returns
 returns c = search laws
