@@ -29,35 +29,27 @@ pub record Following (u : List ℕ) (e r : ℕ) : Type 0 where
   pub none : r ≡ 0 → (next : ℕ) → Ends u e next → ⊥
 
 module _ (u : List ℕ) (e : ℕ) where
-  nothing : ((next : ℕ) → Ends u e next → ⊥) → Following u e 0
-  nothing h = record { found = λ z. absurd (z refl); none = λ z. h }
+  nowhere : (e < length u → getD u e 0 ≡ 10 → ⊥) → (e + 1 < length u → getD u e 0 ≡ 13 → getD u (e + 1) 0 ≡ 10 → ⊥) → Following u e 0
+  nowhere h k = record { found = λ z. absurd (z refl); none = λ z. ends }
+    where
+      ends : (next : ℕ) → Ends u e next → ⊥
+      ends next (lf a w) = h a w
+      ends next (crlf a c w) = k a c w
 
   pub following-short : length u ≤ e → Following u e 0
-  following-short h = nothing (λ next x. omega (arith, ends-inside x))
+  following-short h = nowhere (λ a w. omega arith) (λ a c w. omega arith)
 
   pub following-lf : e < length u → getD u e 0 ≡ 10 → Following u e (e + 1)
   following-lf h w = record { found = λ z. lf h w; none = λ z. absurd (omega arith) }
 
   pub following-other : (getD u e 0 ≡ 10 → ⊥) → (getD u e 0 ≡ 13 → ⊥) → Following u e 0
-  following-other h k = nothing (λ next x. not next x)
-    where
-      not : (next : ℕ) → Ends u e next → ⊥
-      not next (lf a w) = h w
-      not next (crlf a w z) = k w
+  following-other h k = nowhere (λ a. h) (λ a c w. k c)
 
   pub following-cut : (getD u e 0 ≡ 10 → ⊥) → length u ≤ e + 1 → Following u e 0
-  following-cut h k = nothing (λ next x. not next x)
-    where
-      not : (next : ℕ) → Ends u e next → ⊥
-      not next (lf a w) = h w
-      not next (crlf a w z) = omega arith
+  following-cut h k = nowhere (λ a. h) (λ a c w. omega arith)
 
   pub following-cr : (getD u e 0 ≡ 10 → ⊥) → (getD u (e + 1) 0 ≡ 10 → ⊥) → Following u e 0
-  following-cr h k = nothing (λ next x. not next x)
-    where
-      not : (next : ℕ) → Ends u e next → ⊥
-      not next (lf a w) = h w
-      not next (crlf a w z) = k z
+  following-cr h k = nowhere (λ a. h) (λ a c. k)
 
   pub following-crlf : e + 1 < length u → getD u e 0 ≡ 13 → getD u (e + 1) 0 ≡ 10 → Following u e (e + 2)
   following-crlf h c w = record { found = λ z. crlf h c w; none = λ z. absurd (omega arith) }
@@ -120,40 +112,43 @@ pub line-whole : (u : List ℕ) (e next : ℕ) → Following u e next → (next 
 line-whole u e next f z = sym (length-take-le e u (line-inside u e next f z))
 
 -- the line that the count gives
+abbrev lineOf : (u : List ℕ) (n : ℕ) → List ℕ
+lineOf u n = take (11 + n * 2) u
+
 pub line-counted : (u : List ℕ) (n next : ℕ) → getD u 0 0 ≡ 58 → Pair u 1 n → n < 256 → Following u (11 + n * 2) next → (next ≡ 0 → ⊥)
-    → Counted (take (11 + n * 2) u) n
+    → Counted (lineOf u n) n
 line-counted u n next c p h f z =
     let e = ends-inside (f .found z) in
     let l = length-take-le (11 + n * 2) u (omega arith) in
     let b = count-of-line u (11 + n * 2) (omega arith) (omega arith) in
-    let q : Pair (take (11 + n * 2) u) 1 n = record { is = rw (getD-take (11 + n * 2) u 1 0 (omega arith), getD-take (11 + n * 2) u (1 + 1) 0 (omega arith)) (p .is) } in
+    let q : Pair (lineOf u n) 1 n = record { is = rw (getD-take (11 + n * 2) u 1 0 (omega arith), getD-take (11 + n * 2) u (1 + 1) 0 (omega arith)) (p .is) } in
     record {
       long = l;
       colon = getD-take (11 + n * 2) u 0 0 (omega arith) ∙ c;
       counts = pair-byte u 1 n p h ∙ sym b;
       small = h;
-      digits = pair-digits (take (11 + n * 2) u) 1 n q (omega arith) h;
+      digits = pair-digits (lineOf u n) 1 n q (omega arith) h;
     }
 
 module _ (u d d′ : List ℕ) (room at n next : ℕ) (r : Record) (c : getD u 0 0 ≡ 58) (p : Pair u 1 n) (h : n < 256)
-    (f : Following u (11 + n * 2) next) (z : next ≡ 0 → ⊥) (within : at ≤ room) (roomy : room ≤ length d) (t : Taken r (take (11 + n * 2) u) d d′ room at) where
+    (f : Following u (11 + n * 2) next) (z : next ≡ 0 → ⊥) (within : at ≤ room) (roomy : room ≤ length d) (t : Taken r (lineOf u n) d d′ room at) where
   ends : Ends u (11 + n * 2) next
   ends = f .found z
 
-  counted : Counted (take (11 + n * 2) u) n
+  counted : Counted (lineOf u n) n
   counted = line-counted u n next c p h f z
 
-  reads-formed : formed (take (11 + n * 2) u) ≡ true → (k : ℕ) → reading room k (take at d) [] u
-      ≡ after r k (take at d) (drop next u) (reading room (k + 1) (take at d ++ dataOf (recordBytes (take (11 + n * 2) u))) [] (drop next u))
+  reads-formed : formed (lineOf u n) ≡ true → (k : ℕ) → reading room k (take at d) [] u
+      ≡ after r k (take at d) (drop next u) (reading room (k + 1) (take at d ++ dataOf (recordBytes (lineOf u n))) [] (drop next u))
   reads-formed g k =
-      let e = reading-record room k (take at d) u (11 + n * 2) next ends (counted .colon) (formed-digits (take (11 + n * 2) u) g) in
+      let e = reading-record room k (take at d) u (11 + n * 2) next ends (counted .colon) (formed-digits (lineOf u n) g) in
       let l : length (take at d) ≡ at = length-take-le at d (omega arith) in
       rw (← t .judged) at (rw l at e)
 
   pub step-more : (m : ℕ) → r ≡ Data m → Stepped (More m next) u d d′ room at
   unfolding after
   step-more m e =
-      let s = says-data room at (take (11 + n * 2) u) m (sym (t .judged) ∙ e) in
+      let s = says-data room at (lineOf u n) m (sym (t .judged) ∙ e) in
       record {
         on-more = λ m′ next′ q.
             let q1 : m ≡ m′ = cc in
@@ -168,10 +163,10 @@ module _ (u d d′ : List ℕ) (room at n next : ℕ) (r : Record) (c : getD u 0
         on-stop = λ m′ q. let z : _≡_ {A = ℕ} 0 1 = cc in absurd (omega arith);
       }
 
-  formed-unless-fault : (judge room at (take (11 + n * 2) u) ≡ Fault 1 → ⊥) → formed (take (11 + n * 2) u) ≡ true
+  formed-unless-fault : (judge room at (lineOf u n) ≡ Fault 1 → ⊥) → formed (lineOf u n) ≡ true
   formed-unless-fault g =
-      decide (formed (take (11 + n * 2) u)) (λ (q : formed (take (11 + n * 2) u) ≡ true). q)
-      (λ (q : formed (take (11 + n * 2) u) ≡ false). absurd (g (judge-unformed room at (take (11 + n * 2) u) q)))
+      decide (formed (lineOf u n)) (λ (q : formed (lineOf u n) ≡ true). q)
+      (λ (q : formed (lineOf u n) ≡ false). absurd (g (judge-unformed room at (lineOf u n) q)))
 
   pub step-last : r ≡ End → Stepped (Last next) u d d′ room at
   unfolding after
@@ -192,12 +187,12 @@ module _ (u d d′ : List ℕ) (room at n next : ℕ) (r : Record) (c : getD u 0
   pub step-stop : (m : ℕ) → r ≡ Fault m → Stepped (Stop m) u d d′ room at
   unfolding after
   step-stop m e =
-      decide (formed (take (11 + n * 2) u))
-      (λ (g : formed (take (11 + n * 2) u) ≡ true). stepped-stop u d d′ room at m (λ k. rw (reads-formed g k, e)))
-      (λ (g : formed (take (11 + n * 2) u) ≡ false).
-      let j = judge-unformed room at (take (11 + n * 2) u) g in
+      decide (formed (lineOf u n))
+      (λ (g : formed (lineOf u n) ≡ true). stepped-stop u d d′ room at m (λ k. rw (reads-formed g k, e)))
+      (λ (g : formed (lineOf u n) ≡ false).
+      let j = judge-unformed room at (lineOf u n) g in
       let q : m ≡ 1 = cc (t .judged) in
       rw q (no-record u d d′ room at (λ s. unformed g s)))
     where
-      unformed : formed (take (11 + n * 2) u) ≡ false → StartsWithRecord u → ⊥
-      unformed g s = never (rw g at (formed-by-digits (take (11 + n * 2) u) n counted true (rw (pair-byte u 1 n p h) (s .digits))))
+      unformed : formed (lineOf u n) ≡ false → StartsWithRecord u → ⊥
+      unformed g s = never (rw g at (formed-by-digits (lineOf u n) n counted true (rw (pair-byte u 1 n p h) (s .digits))))

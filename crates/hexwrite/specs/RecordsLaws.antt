@@ -41,6 +41,13 @@ module _ (at address : ℕ) (y d : List ℕ) where
 
 -- ---- the loop over the full records
 
+-- the parts of x from `start` on, as `&image[start..start + 16]` and `&image[start..]` are said
+abbrev fullPart : (x : List ℕ) (start : ℕ) → List ℕ
+fullPart x start = take (start + 16 - start) (drop start x)
+
+abbrev restPart : (x : List ℕ) (start : ℕ) → List ℕ
+restPart x start = take (length x - start) (drop start x)
+
 -- the first `at` bytes of d, and then the text of what is left of x from `start` on, are the text of x
 pub record Writing (x d₀ d : List ℕ) (start at : ℕ) : Type 0 where
   pub within : start ≤ length x
@@ -74,31 +81,31 @@ module _ (x d₀ d : List ℕ) (start at : ℕ) (h : Writing x d₀ d start at) 
   written-piece p q d′ e w = rw (w .is) (append-assoc (take at d) p q ∙ (rw e at (h .is)))
 
   module _ (k : 16 ≤ length x - start) where
-    full : take (start + 16 - start) (drop start x) ≡ take 16 (drop start x)
+    full : fullPart x start ≡ take 16 (drop start x)
     full = let e : start + 16 - start ≡ 16 = omega arith in rw e
 
-    full-text : textFrom start (drop start x) ≡ recordText start 0 (take (start + 16 - start) (drop start x)) ++ textFrom (start + 16) (drop (start + 16) x)
+    full-text : textFrom start (drop start x) ≡ recordText start 0 (fullPart x start) ++ textFrom (start + 16) (drop (start + 16) x)
     full-text = text-more start (drop start x) (omega (arith, length-drop start x)) ∙ rw (full, drop-drop 16 start x)
 
-    pub writing-more : (next : ℕ) (d′ : List ℕ) → length d′ ≡ length d → WroteRecord at start 0 (take (start + 16 - start) (drop start x)) d next d′
+    pub writing-more : (next : ℕ) (d′ : List ℕ) → length d′ ≡ length d → WroteRecord at start 0 (fullPart x start) d next d′
         → Writing x d₀ d′ (start + 16) next
     writing-more next d′ same w =
-        let r = length-record start 0 (take (start + 16 - start) (drop start x)) in
-        let e : next ≡ at + length (recordText start 0 (take (start + 16 - start) (drop start x))) = omega (arith, w .follows) in
+        let r = length-record start 0 (fullPart x start) in
+        let e : next ≡ at + length (recordText start 0 (fullPart x start)) = omega (arith, w .follows) in
         record {
           within = omega (arith, h .within);
           small = h .small;
           kept = same ∙ h .kept;
           inside = omega (arith, w .follows, part-fits (start + 16 - start));
           room = h .room;
-          is = rw e (written-piece (recordText start 0 (take (start + 16 - start) (drop start x))) (textFrom (start + 16) (drop (start + 16) x)) d′ full-text (w .wrote));
+          is = rw e (written-piece (recordText start 0 (fullPart x start)) (textFrom (start + 16) (drop (start + 16) x)) d′ full-text (w .wrote));
         }
 
   module _ (k : length x - start < 16) where
-    rest : take (length x - start) (drop start x) ≡ drop start x
+    rest : restPart x start ≡ drop start x
     rest = take-all (length x - start) (drop start x) (le-of-eq (length-drop start x))
 
-    module _ (next : ℕ) (d′ : List ℕ) (same : length d′ ≡ length d) (w : WroteRest at start (take (length x - start) (drop start x)) d next d′) where
+    module _ (next : ℕ) (d′ : List ℕ) (same : length d′ ≡ length d) (w : WroteRest at start (restPart x start) d next d′) where
       rest-text : textFrom start (drop start x) ≡ w .piece ++ recordText 0 1 []
       rest-text = rw rest at (w .ends)
 
