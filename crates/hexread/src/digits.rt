@@ -7,6 +7,7 @@ pub fn values() -> [usize; 256]
     ensures { λ r. ⌜ Valued r ⌝ }
 {
     let mut values = [256usize; 256];
+    // 0 to 9
     values[48] = 0;
     values[49] = 1;
     values[50] = 2;
@@ -17,12 +18,14 @@ pub fn values() -> [usize; 256]
     values[55] = 7;
     values[56] = 8;
     values[57] = 9;
+    // A to F
     values[65] = 10;
     values[66] = 11;
     values[67] = 12;
     values[68] = 13;
     values[69] = 14;
     values[70] = 15;
+    // a to f
     values[97] = 10;
     values[98] = 11;
     values[99] = 12;

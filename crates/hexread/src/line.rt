@@ -21,17 +21,17 @@ fn next_line(text: &[u8], end: usize) -> usize
     if text.len() <= end {
         return 0;
     }
-    if text[end] == 10 {
+    if text[end] == b'\n' {
         return end + 1;
     }
-    if text[end] != 13 {
+    if text[end] != b'\r' {
         return 0;
     }
     let last = end + 1;
     if text.len() <= last {
         return 0;
     }
-    if text[last] != 10 {
+    if text[last] != b'\n' {
         return 0;
     }
     end + 2
@@ -51,7 +51,7 @@ pub fn first_line(
     if text.len() < 12 {
         return Step::Stop(1);
     }
-    if text[0] != 58 {
+    if text[0] != b':' {
         return Step::Stop(1);
     }
     let count = pair(values, text, 1);

@@ -24,7 +24,7 @@ fn put_head(pairs: &[u16; 256], text: &mut [u8], at: usize, head: &[u8])
     requires { ⌜ Spelled (now pairs) × (at + 1 + length (now head) * 2 ≤ length (now text)) ⌝ }
     ensures { λ _. ⌜ Wrote at (58 ∷ spell (now (head .entry))) (now (text .entry)) (now (text .exit)) ⌝ }
 {
-    put_character(text, at, 58);
+    put_character(text, at, b':');
     put_bytes(pairs, text, at + 1, head);
 }
 
@@ -34,7 +34,7 @@ fn put_end(pairs: &[u16; 256], text: &mut [u8], at: usize, check: u8)
     ensures { λ _. ⌜ Wrote at (spell (check ∷ []) ++ 10 ∷ []) (now (text .entry)) (now (text .exit)) ⌝ }
 {
     put_byte(pairs, text, at, check);
-    put_character(text, at + 2, 10);
+    put_character(text, at + 2, b'\n');
 }
 
 // Writes a record. Where the next one starts.
