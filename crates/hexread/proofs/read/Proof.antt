@@ -1,0 +1,25 @@
+use borrow.Author.Needs.{needs}
+use Rattle.refusals.specs.RefusalsLaws.{settled-fills}
+use Rattle.hexread.proofs.read.Statement.{statement}
+use Rattle.hexread.proofs.read.Tie as tie
+
+ruleset laws = (needs, settled-fills)
+
+values-requires : tie.Need-values-requires
+values-requires c κs = search laws
+
+read-lines-requires : tie.Need-read-lines-requires
+read-lines-requires c κs = search laws
+
+settled-requires : tie.Need-settled-requires
+settled-requires c κs = search laws
+
+same-length : tie.Need-same-length
+same-length c = search laws
+
+returns : tie.Need-returns
+returns c = search laws
+
+pub read-spec : {M : Type 1} → statement M
+read-spec =
+    tie.close (tie.spec values-requires read-lines-requires settled-requires same-length returns)

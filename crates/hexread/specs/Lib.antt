@@ -1,0 +1,7 @@
+pub mod DigitsLaws
+pub mod PairsLaws
+pub mod TypedLaws
+pub mod RecordLaws
+pub mod GatheredLaws
+pub mod LineLaws
+pub mod LinesLaws

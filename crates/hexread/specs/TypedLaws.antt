@@ -1,0 +1,101 @@
+-- Type, count, address and room of a record: what the answer is, and what an answer says.
+use mathlib.Core.Path.{_≡_, refl, sym}
+use mathlib.Core.Bool.{Bool, true, false, cond, _&&_}
+use mathlib.Core.List.{List}
+use Prim.Native.Nat.{ℕ, _+_, _-_, _*_, _≤_, _<_}
+use native.Mathlib.Omega.{arith}
+use lib.Dec.{ltb, leb, eqb}
+use lib.ListN.{length}
+use borrow.Author.Tests.{lt-ltb, le-ltb, le-leb, lt-leb, eq-eqb, ne-eqb, leb-true, eqb-true}
+use Rattle.laws.specs.Cases.{positive, both-left, both-right}
+use Rattle.hextext.specs.declared.Record.{Record}
+use Rattle.hextext.specs.declared.Record.the-variants.{Data, End, Fault}
+use Rattle.hextext.specs.Record.{recordBytes, countOf, addressOf, typeOf, formed, summed, typed, judge}
+use Rattle.hextext.specs.RecordLaws.{formed-length}
+
+-- ---- the answer, by the tests
+
+module _ (room at count address kind : ℕ) where
+  pub typed-empty : kind ≡ 0 → count ≡ 0 → Fault 3 ≡ typed room at count address kind
+  unfolding typed
+  typed-empty k n = sym (simp (eq-eqb kind 0 k, le-ltb 0 count (omega arith)))
+
+  pub typed-astray : kind ≡ 0 → (count ≡ 0 → ⊥) → (address ≡ at → ⊥) → Fault 3 ≡ typed room at count address kind
+  unfolding typed
+  typed-astray k n a = sym (simp (eq-eqb kind 0 k, lt-ltb 0 count (positive n), ne-eqb address at a))
+
+  pub typed-full : kind ≡ 0 → (count ≡ 0 → ⊥) → address ≡ at → room - at < count → Fault 4 ≡ typed room at count address kind
+  unfolding typed
+  typed-full k n a r = sym (simp (eq-eqb kind 0 k, lt-ltb 0 count (positive n), eq-eqb address at a, lt-leb (at + count) room (omega arith)))
+
+  pub typed-data : kind ≡ 0 → (count ≡ 0 → ⊥) → address ≡ at → count ≤ room - at → Data count ≡ typed room at count address kind
+  unfolding typed
+  typed-data k n a r =
+      let some = positive n in
+      sym (simp (eq-eqb kind 0 k, lt-ltb 0 count some, eq-eqb address at a, le-leb (at + count) room (omega arith)))
+
+  pub typed-other : (kind ≡ 0 → ⊥) → (kind ≡ 1 → ⊥) → Fault 3 ≡ typed room at count address kind
+  unfolding typed
+  typed-other k o = sym (simp (ne-eqb kind 0 k, ne-eqb kind 1 o))
+
+  pub typed-long : (kind ≡ 0 → ⊥) → kind ≡ 1 → (count ≡ 0 → ⊥) → Fault 3 ≡ typed room at count address kind
+  unfolding typed
+  typed-long k o n = sym (simp (ne-eqb kind 0 k, eq-eqb kind 1 o, ne-eqb count 0 n))
+
+  pub typed-far : (kind ≡ 0 → ⊥) → kind ≡ 1 → count ≡ 0 → (address ≡ 0 → ⊥) → Fault 3 ≡ typed room at count address kind
+  unfolding typed
+  typed-far k o n a = sym (simp (ne-eqb kind 0 k, eq-eqb kind 1 o, eq-eqb count 0 n, ne-eqb address 0 a))
+
+  pub typed-end : (kind ≡ 0 → ⊥) → kind ≡ 1 → count ≡ 0 → address ≡ 0 → End ≡ typed room at count address kind
+  unfolding typed
+  typed-end k o n a = sym (simp (ne-eqb kind 0 k, eq-eqb kind 1 o, eq-eqb count 0 n, eq-eqb address 0 a))
+
+-- ---- what an answer says
+
+data-cases : (zero here fits end : Bool) (n m : ℕ) → cond zero (cond here (cond fits (Data n) (Fault 4)) (Fault 3)) (cond end End (Fault 3)) ≡ Data m
+    → (here ≡ true) × (fits ≡ true) × (n ≡ m)
+data-cases true true true end n m e = (refl, refl, cc)
+data-cases true true false end n m e = let z : _≡_ {A = ℕ} 0 1 = cc in absurd (omega arith)
+data-cases true false fits end n m e = let z : _≡_ {A = ℕ} 0 1 = cc in absurd (omega arith)
+data-cases false here fits true n m e = let z : _≡_ {A = ℕ} 0 1 = cc in absurd (omega arith)
+data-cases false here fits false n m e = let z : _≡_ {A = ℕ} 0 1 = cc in absurd (omega arith)
+
+end-cases : (zero here fits end : Bool) (n : ℕ) → cond zero (cond here (cond fits (Data n) (Fault 4)) (Fault 3)) (cond end End (Fault 3)) ≡ End → end ≡ true
+end-cases true true true end n e = let z : _≡_ {A = ℕ} 0 1 = cc in absurd (omega arith)
+end-cases true true false end n e = let z : _≡_ {A = ℕ} 0 1 = cc in absurd (omega arith)
+end-cases true false fits end n e = let z : _≡_ {A = ℕ} 0 1 = cc in absurd (omega arith)
+end-cases false here fits true n e = refl
+end-cases false here fits false n e = let z : _≡_ {A = ℕ} 0 1 = cc in absurd (omega arith)
+
+-- an end record has no data
+pub end-empty : (room at count address kind : ℕ) → typed room at count address kind ≡ End → count ≡ 0
+unfolding typed
+end-empty room at count address kind e =
+    let b = end-cases (eqb kind 0) (ltb 0 count && eqb address at) (leb (at + count) room) (eqb kind 1 && (eqb count 0 && eqb address 0)) count e in
+    eqb-true count 0 (both-left (eqb count 0) (eqb address 0) (both-right (eqb kind 1) (eqb count 0 && eqb address 0) b))
+
+-- a data record is formed, and its data have room
+pub record SaysData (room at : ℕ) (l : List ℕ) (n : ℕ) : Type 0 where
+  pub good : formed l ≡ true
+  pub counts : countOf (recordBytes l) ≡ n
+  pub fits : at + n ≤ room
+  pub long : length l ≡ 11 + n * 2
+
+unless-fault : (b : Bool) (x : Record) (k n : ℕ) → cond b x (Fault k) ≡ Data n → (b ≡ true) × (x ≡ Data n)
+unless-fault true x k n e = (refl, e)
+unless-fault false x k n e = let z : _≡_ {A = ℕ} 0 1 = cc in absurd (omega arith)
+
+pub says-data : (room at : ℕ) (l : List ℕ) (n : ℕ) → judge room at l ≡ Data n → SaysData room at l n
+unfolding judge typed
+says-data room at l n e =
+    let bytes : List ℕ = recordBytes l in
+    let p = unless-fault (formed l) _ 1 n e in
+    let q = unless-fault (summed bytes) _ 2 n (p .1) in
+    let t = data-cases (eqb (typeOf bytes) 0) (ltb 0 (countOf bytes) && eqb (addressOf bytes) at) (leb (at + countOf bytes) room)
+    (eqb (typeOf bytes) 1 && (eqb (countOf bytes) 0 && eqb (addressOf bytes) 0)) (countOf bytes) n (q .1) in
+    record {
+      good = p .0;
+      counts = t .2;
+      fits = omega (arith, leb-true (at + countOf bytes) room (t .1), t .2);
+      long = omega (arith, formed-length l (p .0), t .2);
+    }

@@ -1,0 +1,53 @@
+ghost use Prim.Native.Nat.{_+_, _<_};
+ghost use lib.ListN.{length};
+ghost use Rattle.hexread.specs.DigitsLaws.{Valued, Value, Pair};
+
+// The value of each character as a hexadecimal digit, or 256.
+pub fn values() -> [usize; 256]
+    ensures { λ r. ⌜ Valued r ⌝ }
+{
+    let mut values = [256usize; 256];
+    // 0 to 9
+    values[48] = 0;
+    values[49] = 1;
+    values[50] = 2;
+    values[51] = 3;
+    values[52] = 4;
+    values[53] = 5;
+    values[54] = 6;
+    values[55] = 7;
+    values[56] = 8;
+    values[57] = 9;
+    // A to F
+    values[65] = 10;
+    values[66] = 11;
+    values[67] = 12;
+    values[68] = 13;
+    values[69] = 14;
+    values[70] = 15;
+    // a to f
+    values[97] = 10;
+    values[98] = 11;
+    values[99] = 12;
+    values[100] = 13;
+    values[101] = 14;
+    values[102] = 15;
+    values
+}
+
+fn value(values: &[usize; 256], character: u8) -> usize
+    requires { ⌜ Valued (now values) ⌝ }
+    ensures { λ r. ⌜ Value character r ⌝ }
+{
+    values[character as usize]
+}
+
+// The byte that the two characters at `at` spell, 256 or more where they are no digits.
+pub fn pair(values: &[usize; 256], text: &[u8], at: usize) -> usize
+    requires { ⌜ Valued (now values) × (at + 1 < length (now text)) ⌝ }
+    ensures { λ r. ⌜ Pair (now (text .entry)) at r ⌝ }
+{
+    let high = value(values, text[at]);
+    let low = value(values, text[at + 1]);
+    high * 16 + low
+}

@@ -1,0 +1,72 @@
+ghost use Prim.Native.Nat.{_≤_};
+ghost use lib.ListN.{length};
+ghost use Rattle.hexread.specs.DigitsLaws.{Valued};
+ghost use Rattle.hexread.specs.LineLaws.{Following, Stepped};
+use crate::digits::pair;
+use crate::record::take_record;
+use hextext::Record;
+
+// What the first line of a text is: a record of so many data bytes, or the end record, each with the next line's start,
+// or what it is refused by.
+pub enum Step {
+    More(usize, usize),
+    Last(usize),
+    Stop(u32),
+}
+
+// Where the next line starts, if a line end stands at `end`, or 0.
+fn next_line(text: &[u8], end: usize) -> usize
+    ensures { λ r. ⌜ Following (now (text .entry)) end r ⌝ }
+{
+    if text.len() <= end {
+        return 0;
+    }
+    if text[end] == b'\n' {
+        return end + 1;
+    }
+    if text[end] != b'\r' {
+        return 0;
+    }
+    let last = end + 1;
+    if text.len() <= last {
+        return 0;
+    }
+    if text[last] != b'\n' {
+        return 0;
+    }
+    end + 2
+}
+
+// The text's first line, its record's data in the image at `at`.
+pub fn first_line(
+    values: &[usize; 256],
+    text: &[u8],
+    image: &mut [u8],
+    at: usize,
+    room: usize,
+) -> Step
+    requires { ⌜ Valued (now values) × (at ≤ room) × (room ≤ length (now image)) ⌝ }
+    ensures { λ r. ⌜ Stepped r (now (text .entry)) (now (image .entry)) (now (image .exit)) room at ⌝ }
+{
+    if text.len() < 12 {
+        return Step::Stop(1);
+    }
+    if text[0] != b':' {
+        return Step::Stop(1);
+    }
+    let count = pair(values, text, 1);
+    if 256 <= count {
+        return Step::Stop(1);
+    }
+    let end = 11 + count * 2;
+    let next = next_line(text, end);
+    if next == 0 {
+        return Step::Stop(1);
+    }
+    let taken = take_record(values, &text[..end], count, image, at, room);
+    match taken {
+        Record::Data(written) => Step::More(written, next),
+        Record::End => Step::Last(next),
+        Record::Fault(number) => Step::Stop(number),
+    }
+}

@@ -1,0 +1,57 @@
+ghost use mathlib.Core.Path.{_≡_};
+ghost use Prim.Native.Nat.{min};
+ghost use lib.ListN.{length};
+ghost use Rattle.refusals.specs.RefusalsLaws.{Begins};
+ghost use Rattle.hextext.specs.Text.{readText};
+ghost use Rattle.hexread.specs.DigitsLaws.{Valued};
+use crate::line::Step;
+use crate::line::first_line;
+use refusals::Filled;
+use refusals::Refusal;
+
+// The room that a buffer of `size` bytes gives an image.
+fn room_in(size: usize) -> usize
+    ensures { λ r. ⌜ r ≡ min 4096 size ⌝ }
+{
+    if size < 4096 { size } else { 4096 }
+}
+
+// Reads the text into the image from its start. What stands after the result is anything.
+pub fn read_lines(values: &[usize; 256], text: &[u8], image: &mut [u8]) -> Filled
+    requires { ⌜ Valued (now values) ⌝ }
+    ensures { λ r. ⌜ Begins (readText (length (now (image .entry))) (now (text .entry))) r (now (image .exit)) ⌝ }
+{
+    let room = room_in(image.len());
+    let mut start: usize = 0;
+    let mut size: usize = 0;
+    let mut line: u64 = 1;
+    while start < text.len() {
+        match first_line(values, &text[start..], image, size, room) {
+            Step::More(written, next) => {
+                size += written;
+                start += next;
+                line += 1;
+            }
+            Step::Last(next) => {
+                if start + next == text.len() {
+                    return Filled::Length(size);
+                }
+                let after = line + 1;
+                return Filled::Refused(Refusal {
+                    number: 1,
+                    detail: after,
+                });
+            }
+            Step::Stop(number) => {
+                return Filled::Refused(Refusal {
+                    number,
+                    detail: line,
+                });
+            }
+        }
+    }
+    Filled::Refused(Refusal {
+        number: 1,
+        detail: line,
+    })
+}

@@ -1,0 +1,18 @@
+use borrow.Author.Needs.{needs}
+use Rattle.hexwrite.specs.WroteLaws.{wrote-character}
+use Rattle.hexwrite.proofs.digits.put_character.Statement.{statement}
+use Rattle.hexwrite.proofs.digits.put_character.Tie as tie
+
+ruleset laws = (needs, wrote-character)
+
+slice-write-text : tie.Need-slice-write-text
+slice-write-text c = search laws
+
+same-length : tie.Need-same-length
+same-length c = search laws
+
+returns : tie.Need-returns
+returns c = search laws
+
+pub put-character-spec : {M : Type 1} → statement M
+put-character-spec = tie.close (tie.spec slice-write-text same-length returns)

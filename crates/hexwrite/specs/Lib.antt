@@ -1,0 +1,5 @@
+pub mod WroteLaws
+pub mod DigitsLaws
+pub mod RecordLaws
+pub mod TextLaws
+pub mod RecordsLaws

@@ -1,0 +1,36 @@
+-- Pieces written one after the other.
+use mathlib.Core.Path.{_≡_, refl, sym, ap, _∙_}
+use mathlib.Core.List.{List, [], _∷_, _++_, append-nil, append-assoc}
+use Prim.Native.Nat.{ℕ, _+_, _*_, _<_}
+use native.Mathlib.Omega.{arith}
+use native.Mathlib.Numerals.{add-one}
+use lib.ListN.{length, take, set, length-append}
+use lib.Seq.{take-suc-set}
+use Rattle.hextext.specs.Written.{spell}
+
+-- the piece p was written at `at`: d′ has d's first `at` bytes and then p. What stands after it is anything
+pub record Wrote (at : ℕ) (p d d′ : List ℕ) : Type 0 where
+  pub is : take (at + length p) d′ ≡ take at d ++ p
+
+pub wrote-nothing : (at : ℕ) (d : List ℕ) → Wrote at [] d d
+wrote-nothing at d = let e : at + 0 ≡ at = omega arith in record { is = rw e (sym (append-nil (take at d))) }
+
+pub wrote-character : (at c : ℕ) (d : List ℕ) → at < length d → Wrote at (c ∷ []) d (set d at c)
+wrote-character at c d h = record { is = rw (add-one at) (take-suc-set d at c h) }
+
+pub wrote-then : (at m : ℕ) (p q d d₁ d₂ : List ℕ) → Wrote at p d d₁ → m ≡ at + length p → Wrote m q d₁ d₂ → Wrote at (p ++ q) d d₂
+wrote-then at m p q d d₁ d₂ w e v =
+    let n : at + length (p ++ q) ≡ m + length q = omega (arith, length-append p q) in
+    record { is = rw n (v .is ∙ rw e (ap (λ (l : List ℕ). l ++ q) (w .is) ∙ append-assoc (take at d) p q)) }
+
+-- ---- the characters of bytes
+
+pub spell-append : (l m : List ℕ) → spell (l ++ m) ≡ spell l ++ spell m
+unfolding spell
+spell-append [] m = refl
+spell-append (b ∷ l) m = rw (spell-append l m)
+
+pub length-spell : (l : List ℕ) → length (spell l) ≡ length l * 2
+unfolding spell
+length-spell [] = refl
+length-spell (b ∷ l) = omega (arith, length-spell l)
