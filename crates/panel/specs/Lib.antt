@@ -5,3 +5,4 @@ pub mod Load
 pub mod LevelsLaws
 pub mod VerdictLaws
 pub mod ReadingLaws
+pub mod LoadLaws

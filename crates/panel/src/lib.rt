@@ -12,3 +12,8 @@ pub use verdicts::verdict;
 mod readings;
 
 pub use readings::reading;
+
+// The load of a text.
+mod loads;
+
+pub use loads::load;
