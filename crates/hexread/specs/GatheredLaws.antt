@@ -5,10 +5,10 @@ use mathlib.Core.List.{List, [], _∷_, _++_, append-nil, append-assoc}
 use Prim.Native.Nat.{ℕ, zero, suc, _+_, _-_, _*_, _≤_, _<_, suc-le-suc}
 use native.Mathlib.Omega.{arith}
 use native.Mathlib.Numerals.{add-one}
+use borrow.Author.Tests.{eq-eqb, ne-eqb, eqb-true}
 use lib.Dec.{eqb}
 use lib.ListN.{length, take, drop, getD, take-append-drop, List·getD-eq-default}
 use lib.Seq.{drop-cons, take-suc, getD-take, getD-drop, take-take, length-take-le}
-use borrow.Author.Tests.{eq-eqb, ne-eqb, eqb-true}
 use Rattle.laws.specs.Cases.{split, decide}
 use Rattle.refusals.specs.Refusals.{refused, refusal}
 use Rattle.hextext.specs.Record.{allDigits, recordBytes, countOf, dataOf, formed, judge}

@@ -4,10 +4,10 @@ use mathlib.Core.List.{List, []}
 use Prim.Native.Nat.{ℕ, _+_, _-_, _*_, _^_, _≤_, _<_, min}
 use native.Mathlib.Omega.{arith}
 use native.Mathlib.Nat.{le-of-eq}
-use mir.Val.{Fits}
-use mir.Syntax.{w64}
 use lib.ListN.{length, take, drop, drop-of-length-le, length-drop}
 use lib.Seq.{drop-drop, length-take-le, take-all}
+use mir.Val.{Fits}
+use mir.Syntax.{w64}
 use Rattle.refusals.specs.declared.Filled.the-variants.{Length, Refused}
 use Rattle.refusals.specs.Refusals.{Outcome, result, refused, refusal}
 use Rattle.refusals.specs.RefusalsLaws.{Begins}

@@ -4,12 +4,12 @@ use mathlib.Core.List.{List, [], _∷_}
 use Prim.Native.Nat.{ℕ, _+_, _*_, _/_, _%_, _≤_, _<_}
 use native.Mathlib.Omega.{arith}
 use native.Mathlib.Numerals.{add-one}
-use mir.Val.{Fits}
-use mir.Syntax.{w8}
-use lib.ListN.{length, take, getD, set, length-set, length-take}
-use lib.Seq.{getD-set-same, getD-set-other, take-suc, take-all}
 use borrow.Author.Tests.{lt-ltb, le-ltb}
 use borrow.Author.Count.{below-more}
+use lib.ListN.{length, take, getD, set, length-set, length-take}
+use lib.Seq.{getD-set-same, getD-set-other, take-suc, take-all}
+use mir.Val.{Fits}
+use mir.Syntax.{w8}
 use Rattle.hextext.specs.Written.{hexDigit, spell}
 use Rattle.hexwrite.specs.WroteLaws.{Wrote, wrote-nothing, wrote-character, wrote-then, spell-append, length-spell}
 

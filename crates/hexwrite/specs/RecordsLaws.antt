@@ -4,9 +4,9 @@ use mathlib.Core.List.{List, [], _++_, append-assoc}
 use Prim.Native.Nat.{ℕ, _+_, _-_, _*_, _≤_, _<_}
 use native.Mathlib.Omega.{arith}
 use native.Mathlib.Nat.{le-of-eq, le-of-lt}
+use borrow.Author.Tests.{le-leb, lt-leb}
 use lib.ListN.{length, take, drop, length-append, length-take, length-drop}
 use lib.Seq.{drop-drop, take-all}
-use borrow.Author.Tests.{le-leb, lt-leb}
 use Rattle.laws.specs.Cases.{positive}
 use Rattle.refusals.specs.declared.Filled.the-variants.{Length, Refused}
 use Rattle.refusals.specs.Refusals.{refusal}

@@ -6,3 +6,6 @@ pub mod ValueLaws
 pub mod FrequencyLaws
 pub mod PolynomialLaws
 pub mod MeasuredLaws
+pub mod Examples
+pub mod Nested
+pub mod NestedLaws

@@ -1,7 +1,7 @@
 use mathlib.Core.Path.{refl}
+use borrow.Author.Needs.{needs}
 use Rattle.hextext.specs.Record.{digit}
 use Rattle.hexread.specs.DigitsLaws.{isValue, valueOf, valued-by-test}
-use borrow.Author.Needs.{needs}
 use Rattle.hexread.proofs.digits.values.Statement.{statement}
 use Rattle.hexread.proofs.digits.values.Tie as tie
 

@@ -1,5 +1,5 @@
-use borrow.Author.Needs.{needs}
 use Prim.Native.Nat.{_-_}
+use borrow.Author.Needs.{needs}
 use lib.ListN.{length}
 use Rattle.hexread.specs.LinesLaws.{Reading, reading-first, reading-stops, reading-refused, reading-done, reading-overrun, next-fits, start-fits, size-fits, start-less, reading-more}
 use Rattle.hexread.proofs.lines.read_lines.Statement.{statement}

@@ -1,5 +1,5 @@
-use borrow.Author.Needs.{needs}
 use Prim.Native.Nat.{_-_}
+use borrow.Author.Needs.{needs}
 use Rattle.hexread.specs.PairsLaws.{Putting, putting-first, putting-more, putting-stop, putting-end}
 use Rattle.hexread.proofs.record.put_data.Statement.{statement}
 use Rattle.hexread.proofs.record.put_data.Tie as tie

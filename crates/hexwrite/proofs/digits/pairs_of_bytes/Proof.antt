@@ -1,5 +1,5 @@
-use borrow.Author.Needs.{needs}
 use Prim.Native.Nat.{_-_}
+use borrow.Author.Needs.{needs}
 use Rattle.hexwrite.specs.DigitsLaws.{Spelling, spelling-first, spelling-more, spelling-end}
 use Rattle.hexwrite.proofs.digits.pairs_of_bytes.Statement.{statement}
 use Rattle.hexwrite.proofs.digits.pairs_of_bytes.Tie as tie

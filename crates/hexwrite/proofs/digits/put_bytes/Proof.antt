@@ -1,5 +1,5 @@
-use borrow.Author.Needs.{needs}
 use Prim.Native.Nat.{_-_}
+use borrow.Author.Needs.{needs}
 use lib.ListN.{length}
 use Rattle.hexwrite.specs.DigitsLaws.{WritingBytes, writing-bytes-first, writing-bytes-more, writing-bytes-end}
 use Rattle.hexwrite.proofs.digits.put_bytes.Statement.{statement}

@@ -1,6 +1,6 @@
-use borrow.Author.Needs.{needs}
 use Prim.Native.Nat.{_-_}
 use native.Mathlib.Omega.{arith}
+use borrow.Author.Needs.{needs}
 use lib.ListN.{length, length-take}
 use Rattle.hexwrite.specs.RecordsLaws.{Writing, writing-first, part-fits, writing-more, end-fits, writing-end}
 use Rattle.hexwrite.proofs.records.put_records.Statement.{statement}

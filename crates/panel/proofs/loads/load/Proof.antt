@@ -1,11 +1,7 @@
-use Rattle.panel.specs.LoadLaws.{keeps-accepted, keeps-refused, text-refused, image-judged}
 use borrow.Author.Needs.{needs}
+use Rattle.panel.specs.LoadLaws.{text-refused, image-judged}
 use Rattle.panel.proofs.loads.load.Statement.{statement}
 use Rattle.panel.proofs.loads.load.Tie as tie
-use Rattle.panel.proofs.loads.load.Reads as reads
-use Rattle.panel.proofs.loads.load.Lts as lts
-use Rattle.hexread.proofs.read.Reads as read-reads
-use Rattle.panel.proofs.loads.keep_accepted.Reads as keep-accepted-reads
 
 read-requires : tie.Need-read-requires
 read-requires c κs = search needs
