@@ -15,10 +15,11 @@ use Rattle.refusals.specs.declared.Filled.the-variants.{Length}
 use Rattle.refusals.specs.Refusals.{result, Fills}
 use Rattle.hextext.specs.Text.{readText}
 use Rattle.hextext.specs.Written.{recordText, textOf, textLength, writeImage}
+use Rattle.hextext.specs.WrittenLaws.{length-textOf, length-recordText, textLength-full, textLength-rest}
 use Rattle.hexformat.specs.Format.{GoodText, none}
 use Rattle.hexformat.specs.Agrees.{read-exactly}
 use Rattle.hexformat.specs.GoodTexts.{image-is-bytes}
-use Rattle.hexformat.specs.WrittenLaws.{writing-good, length-textOf, length-recordText, textLength-full, textLength-rest}
+use Rattle.hexformat.specs.WrittenLaws.{writing-good}
 
 module _ (image : List ℕ) (are-bytes : Bytes image) where
   -- what is written of an image is a good text of it

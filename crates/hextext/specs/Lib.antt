@@ -2,3 +2,4 @@ pub mod Record
 pub mod Text
 pub mod Written
 pub mod RecordLaws
+pub mod WrittenLaws

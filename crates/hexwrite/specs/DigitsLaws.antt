@@ -11,7 +11,8 @@ use lib.Seq.{getD-set-same, getD-set-other, take-suc, take-all}
 use mir.Val.{Fits}
 use mir.Syntax.{w8}
 use Rattle.hextext.specs.Written.{hexDigit, spell}
-use Rattle.hexwrite.specs.WroteLaws.{Wrote, wrote-nothing, wrote-character, wrote-then, spell-append, length-spell}
+use Rattle.hextext.specs.WrittenLaws.{length-spell}
+use Rattle.hexwrite.specs.WroteLaws.{Wrote, wrote-nothing, wrote-character, wrote-then, spell-append}
 
 -- ---- a digit
 

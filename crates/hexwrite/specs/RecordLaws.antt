@@ -5,16 +5,12 @@ use Prim.Native.Nat.{ℕ, _+_, _-_, _*_, _/_, _%_, _^_}
 use native.Mathlib.Nat.{add-mod}
 use native.Mathlib.Omega.{arith}
 use lib.ListN.{length, length-append}
-use Rattle.laws.specs.Sums.{total}
+use Rattle.laws.specs.Sums.{total, total-append}
 use Rattle.hextext.specs.Written.{spell, checksum, headAndData, recordText}
-use Rattle.hexwrite.specs.WroteLaws.{Wrote, wrote-then, spell-append, length-spell}
+use Rattle.hextext.specs.WrittenLaws.{length-spell}
+use Rattle.hexwrite.specs.WroteLaws.{Wrote, wrote-then, spell-append}
 
 -- ---- the checksum
-
-total-append : (l m : List ℕ) → total (l ++ m) ≡ total l + total m
-unfolding total
-total-append [] m = omega arith
-total-append (b ∷ l) m = omega (arith, total-append l m)
 
 mod-256 : (n : ℕ) → n % 65536 % 256 ≡ n % 256
 mod-256 n = omega arith
@@ -54,9 +50,3 @@ wrote-record at address kind check end x d d₁ d₂ d₃ c w₁ w₂ e w₃ =
     let v = wrote-then at (at + 9) head (spell x) d d₁ d₂ w₁ refl w₂ in
     let u = wrote-then at end (head ++ spell x) (spell (check ∷ []) ++ 10 ∷ []) d d₂ d₃ v (omega arith) w₃ in
     record { wrote = rw (← c, spell-append x (check ∷ []), append-assoc (spell x) (spell (check ∷ [])) (10 ∷ [])) u; follows = omega arith }
-
-pub length-record : (address kind : ℕ) (x : List ℕ) → length (recordText address kind x) ≡ 12 + length x * 2
-unfolding recordText headAndData spell
-length-record address kind x =
-    let c : ℕ = checksum (headOf address kind x ++ x) in
-    omega (arith, length-append (spell (x ++ c ∷ [])) (10 ∷ []), length-spell (x ++ c ∷ []), length-append x (c ∷ []))

@@ -12,9 +12,10 @@ use Rattle.refusals.specs.declared.Filled.the-variants.{Length, Refused}
 use Rattle.refusals.specs.Refusals.{refusal}
 use Rattle.refusals.specs.RefusalsLaws.{Begins}
 use Rattle.hextext.specs.Written.{recordText, textOf, textLength, writeImage}
+use Rattle.hextext.specs.WrittenLaws.{length-recordText, length-textOf}
 use Rattle.hexwrite.specs.WroteLaws.{Wrote, wrote-nothing}
-use Rattle.hexwrite.specs.RecordLaws.{WroteRecord, length-record}
-use Rattle.hexwrite.specs.TextLaws.{textFrom, text-none, text-more, length-from, length-text, length-room}
+use Rattle.hexwrite.specs.RecordLaws.{WroteRecord}
+use Rattle.hexwrite.specs.TextLaws.{textFrom, text-none, text-more, length-from, length-room}
 
 -- ---- the bytes that fill no record
 
@@ -35,7 +36,7 @@ module _ (at address : ℕ) (y d : List ℕ) where
       record {
         piece = recordText address 0 y;
         wrote = w .wrote;
-        follows = omega (arith, w .follows, length-record address 0 y);
+        follows = omega (arith, w .follows, length-recordText address 0 y);
         ends = text-more address y (positive some) ∙ rw (take-all 16 y (le-of-lt few), text-none (address + 16) (drop 16 y) none);
       }
 
@@ -66,14 +67,14 @@ module _ (x d₀ d : List ℕ) (start at : ℕ) (h : Writing x d₀ d start at) 
   left =
       let l = length-append (take at d) (textFrom start (drop start x)) in
       let t = length-take at d in
-      let e = ap length (h .is) ∙ length-text x in
+      let e = ap length (h .is) ∙ length-textOf x in
       omega arith
 
   -- a part of what is left has room as one record
   pub part-fits : (n : ℕ) → at + 12 + length (take n (drop start x)) * 2 ≤ length d
   part-fits n =
       let t = length-take n (drop start x) in
-      let e = length-from (length (drop start x)) start (drop start x) (omega arith) in
+      let e = length-from start (drop start x) in
       omega (arith, length-room (length (drop start x)), left, h .room, h .kept)
 
   -- a piece p written where the text of what is left begins with it
@@ -90,7 +91,7 @@ module _ (x d₀ d : List ℕ) (start at : ℕ) (h : Writing x d₀ d start at) 
     pub writing-more : (next : ℕ) (d′ : List ℕ) → length d′ ≡ length d → WroteRecord at start 0 (fullPart x start) d next d′
         → Writing x d₀ d′ (start + 16) next
     writing-more next d′ same w =
-        let r = length-record start 0 (fullPart x start) in
+        let r = length-recordText start 0 (fullPart x start) in
         let e : next ≡ at + length (recordText start 0 (fullPart x start)) = omega (arith, w .follows) in
         record {
           within = omega (arith, h .within);
@@ -115,7 +116,7 @@ module _ (x d₀ d : List ℕ) (start at : ℕ) (h : Writing x d₀ d start at) 
           omega (arith, left, w .follows)
 
       pub end-fits : next + 12 + length (take 0 x) * 2 ≤ length d′
-      end-fits = omega (arith, end-place, length-record 0 1 [], h .room, h .kept)
+      end-fits = omega (arith, end-place, length-recordText 0 1 [], h .room, h .kept)
 
       pub writing-end : (after : ℕ) (d″ : List ℕ) → WroteRecord next 0 1 [] d′ after d″ → take (textLength (length x)) d″ ≡ textOf x
       writing-end after d″ v =
@@ -137,4 +138,4 @@ module _ (x d : List ℕ) where
     unfolding writeImage
     writes-text d′ k w =
         rw (le-leb (length x) 4096 h, le-leb (textLength (length x)) (length d) (omega arith))
-        (record { answers = rw (e, length-text x); begins = rw e w })
+        (record { answers = rw (e, length-textOf x); begins = rw e w })

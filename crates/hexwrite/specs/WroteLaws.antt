@@ -1,7 +1,7 @@
 -- Pieces written one after the other.
 use mathlib.Core.Path.{_≡_, refl, sym, ap, _∙_}
 use mathlib.Core.List.{List, [], _∷_, _++_, append-nil, append-assoc}
-use Prim.Native.Nat.{ℕ, _+_, _*_, _<_}
+use Prim.Native.Nat.{ℕ, _+_, _<_}
 use native.Mathlib.Omega.{arith}
 use native.Mathlib.Numerals.{add-one}
 use lib.ListN.{length, take, set, length-append}
@@ -29,8 +29,3 @@ pub spell-append : (l m : List ℕ) → spell (l ++ m) ≡ spell l ++ spell m
 unfolding spell
 spell-append [] m = refl
 spell-append (b ∷ l) m = rw (spell-append l m)
-
-pub length-spell : (l : List ℕ) → length (spell l) ≡ length l * 2
-unfolding spell
-length-spell [] = refl
-length-spell (b ∷ l) = omega (arith, length-spell l)

@@ -1,7 +1,8 @@
 -- The sum of a list of numbers.
 use mathlib.Core.Path.{_≡_}
-use mathlib.Core.List.{List, [], _∷_}
+use mathlib.Core.List.{List, [], _∷_, _++_}
 use Prim.Native.Nat.{ℕ, _+_, _≤_, _<_}
+use native.Mathlib.Omega.{arith}
 use native.Mathlib.Numerals.{add-one}
 use lib.ListN.{length, drop, getD, drop-of-length-le}
 use lib.Seq.{drop-cons}
@@ -9,6 +10,11 @@ use lib.Seq.{drop-cons}
 unfoldable pub total : List ℕ → ℕ
 total [] = 0
 total (b ∷ l) = b + total l
+
+pub total-append : (l m : List ℕ) → total (l ++ m) ≡ total l + total m
+unfolding total
+total-append [] m = omega arith
+total-append (b ∷ l) m = omega (arith, total-append l m)
 
 -- of what is left from i on
 module _ (l : List ℕ) (i : ℕ) where
