@@ -5,7 +5,7 @@ use Prim.Native.Nat.{ℕ, zero, suc, _+_, _-_, _≤_, _<_}
 use native.Mathlib.Nat.{sub-zero, add-zero, zero-add}
 use native.Mathlib.Omega.{arith}
 use lib.ListN.{length, getD}
-use Rattle.image.specs.LayoutLaws.{one-left, none-left}
+use Rattle.laws.specs.Loops.{one-left, none-left}
 use Rattle.builder.specs.declared.Line.{Line}
 use Rattle.builder.specs.declared.Table.{Table}
 use Rattle.builder.specs.Lines.{noLine}

@@ -13,7 +13,7 @@ use Rattle.refusals.specs.declared.Refusal.{Refusal}
 use Rattle.refusals.specs.declared.Verdict.{Verdict}
 use Rattle.refusals.specs.declared.Verdict.the-variants.{Accepted, Refused}
 use Rattle.image.specs.Layout.{lineCount, kindAt, offsetAt, lengthAt, layoutVerdict}
-use Rattle.image.specs.LayoutLaws.{one-left, none-left}
+use Rattle.laws.specs.Loops.{one-left, none-left}
 use Rattle.image.specs.Find.{found, foundOffset, isThere, orElse, Found}
 use Rattle.finder.specs.declared.Place.{Place}
 use Rattle.finder.specs.declared.Place.the-variants.{At, Nowhere}

@@ -16,14 +16,6 @@ use Rattle.refusals.specs.Refusals.{ask}
 use Rattle.refusals.specs.VerdictLaws.{asked, first-passed, next-passed}
 use Rattle.image.specs.Layout.{lineCount, linePlace, kindAt, zeroAt, offsetAt, lengthAt, sumAt, bodyAt, startVerdict, countVerdict, lineRight, linesVerdict, sumsVerdict, layoutVerdict}
 
--- ---- a loop over the lines, i of them passed
-
-pub one-left : (count i : ℕ) → i < count → count - i ≡ suc (count - (i + 1))
-one-left count i h = omega arith
-
-pub none-left : (count i : ℕ) → count ≤ i → count - i ≡ 0
-none-left count i h = omega arith
-
 -- ---- the start, and the number of lines
 
 -- each of three tests

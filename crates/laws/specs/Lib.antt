@@ -8,3 +8,4 @@ pub mod Lists
 pub mod Sums
 pub mod Tables
 pub mod Bytes
+pub mod Loops

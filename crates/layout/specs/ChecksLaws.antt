@@ -17,7 +17,8 @@ use Rattle.refusals.specs.declared.Verdict.the-variants.{Accepted, Refused}
 use Rattle.refusals.specs.Refusals.{refusal, ask}
 use Rattle.refusals.specs.VerdictLaws.{ask-passes, ask-refuses, ask-unpassed}
 use Rattle.image.specs.Layout.{lineCount, linePlace, kindAt, zeroAt, offsetAt, lengthAt, sumAt, startVerdict, countVerdict, lineRight, linesVerdict, sumsVerdict, layoutVerdict}
-use Rattle.image.specs.LayoutLaws.{one-left, none-left, Started, start-passes, start-passed, Counted, count-passes, count-passed, Right, passed-right}
+use Rattle.laws.specs.Loops.{one-left, none-left}
+use Rattle.image.specs.LayoutLaws.{Started, start-passes, start-passed, Counted, count-passes, count-passed, Right, passed-right}
 use Rattle.layout.specs.Checks.{allLines, sumRight, allSums}
 
 -- ---- 5

@@ -12,7 +12,7 @@ use Rattle.refusals.specs.declared.Verdict.{Verdict}
 use Rattle.refusals.specs.declared.Verdict.the-variants.{Accepted, Refused}
 use Rattle.refusals.specs.Refusals.{refusal}
 use Rattle.image.specs.Layout.{lineCount, kindAt}
-use Rattle.image.specs.LayoutLaws.{one-left, none-left}
+use Rattle.laws.specs.Loops.{one-left, none-left}
 use Rattle.image.specs.Sections.{sectionsFrom, sections}
 use Rattle.finder.specs.declared.Place.{Place}
 use Rattle.finder.specs.declared.Place.the-variants.{At, Nowhere}

@@ -1,7 +1,8 @@
 use Prim.Native.Nat.{_-_}
 use borrow.Author.Needs.{needs}
+use Rattle.laws.specs.Loops.{Filling, filling-first, filling-more}
 use Rattle.bodies.specs.Set.{rowsFrom}
-use Rattle.bodies.specs.GridLaws.{Filling, filling-first, filling-more, rows-next, rows-filled}
+use Rattle.bodies.specs.GridLaws.{rows-next, rows-filled}
 use Rattle.bodies.proofs.sets.read_grid.Statement.{statement}
 use Rattle.bodies.proofs.sets.read_grid.Tie as tie
 

@@ -1,8 +1,9 @@
 use Prim.Native.Nat.{_-_}
 use borrow.Author.Needs.{needs}
+use Rattle.laws.specs.Loops.{Filling, filling-first, filling-more}
 use Rattle.bodies.specs.Set.{rowFrom}
 use Rattle.bodies.specs.TestsLaws.{read-as}
-use Rattle.bodies.specs.GridLaws.{Filling, filling-first, filling-more, row-next, row-filled}
+use Rattle.bodies.specs.GridLaws.{row-next, row-filled}
 use Rattle.bodies.proofs.sets.read_row.Statement.{statement}
 use Rattle.bodies.proofs.sets.read_row.Tie as tie
 
