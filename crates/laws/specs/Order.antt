@@ -1,10 +1,10 @@
 -- What a test on numbers says.
-use mathlib.Core.Path.{_≡_, refl, sym, ap, _∙_, subst}
-use mathlib.Core.Bool.{true, false, not}
+use mathlib.Core.Path.{_≡_, refl, sym, ap, _∙_}
+use mathlib.Core.Bool.{true, not}
 use Prim.Native.Nat.{ℕ, _≤_, _<_}
 use native.Mathlib.Omega.{arith}
 use borrow.Author.Tests.{ltb-true, leb-true, lt-ltb, le-ltb, le-leb, lt-leb}
-use lib.Dec.{T, leb, ltb}
+use lib.Dec.{leb, ltb}
 use lib.IntN.{ℤ, pos, negsuc, natAbs}
 use lib.Signed.{mag, ltZ, leZ}
 use Rattle.laws.specs.Cases.{split, never}
@@ -26,10 +26,6 @@ less-otherwiseℤ (negsuc a) (negsuc b) = less-otherwise b a
 pub below-zero : (z : ℤ) → ltZ z (pos 0) ≡ true → z ≡ negsuc (mag z)
 below-zero (pos a) e = let h = ltb-true a 0 e in absurd (omega arith)
 below-zero (negsuc a) e = refl
-
-pub not-below-zero : (z : ℤ) → ltZ z (pos 0) ≡ false → z ≡ pos (mag z)
-not-below-zero (pos a) e = refl
-not-below-zero (negsuc a) e = absurd (subst T e tt)
 
 -- between two naturals
 pub between : (z : ℤ) (a b : ℕ) → leZ (pos a) z ≡ true → leZ z (pos b) ≡ true → natAbs z ≤ b

@@ -27,12 +27,6 @@ ask-unpassed true number detail f = absurd (f refl)
 ask-unpassed false number detail f = refl
 
 -- two checks, one after the other
-pub passes : {first : Verdict} (next : Verdict) → first ≡ Accepted → andThen first next ≡ next
-passes next e = rw e
-
-pub stops : {first : Verdict} {r : Refusal} (next : Verdict) → first ≡ Refused r → andThen first next ≡ Refused r
-stops next e = rw e
-
 -- how code that stops at the first refusal comes to both
 pub stops-there : (first next : Verdict) {v : Verdict} (r : Refusal) → v ≡ first → v ≡ Refused r → v ≡ andThen first next
 stops-there first next r e f = rw (← e, f)
