@@ -6,3 +6,4 @@ pub mod LayoutLaws
 pub mod RoundTrip
 pub mod Back
 pub mod FindLaws
+pub mod Examples

@@ -7,3 +7,4 @@ pub mod VerdictLaws
 pub mod ReadingLaws
 pub mod LoadLaws
 pub mod AfterRefusal
+pub mod Examples

@@ -26,8 +26,7 @@ pub ask-unpassed : (holds : Bool) (number detail : ℕ) → (ask holds number de
 ask-unpassed true number detail f = absurd (f refl)
 ask-unpassed false number detail f = refl
 
--- two checks, one after the other
--- how code that stops at the first refusal comes to both
+-- two checks, one after the other: how code that stops at the first refusal comes to both, and what an acceptance says of each
 pub stops-there : (first next : Verdict) {v : Verdict} (r : Refusal) → v ≡ first → v ≡ Refused r → v ≡ andThen first next
 stops-there first next r e f = rw (← e, f)
 
