@@ -1,0 +1,5 @@
+pub mod Further
+pub mod FurtherLaws
+pub mod PanelLaws
+pub mod LevelsLaws
+pub mod Demand3
