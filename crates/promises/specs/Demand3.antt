@@ -1,7 +1,7 @@
 -- The third demand: panels in the field go on working when a later image holds more.
 use mathlib.Core.Bool.{Bool, true, false, not}
 use mathlib.Core.List.{List, [], _∷_}
-use mathlib.Core.Logic.{_↔_}
+use mathlib.Core.Logic.{_↔_, _⊎_}
 use mathlib.Core.Path.{_≡_, refl, sym, ap, _∙_}
 use Prim.Native.Nat.{ℕ, _≤_}
 use native.Mathlib.Omega.{arith}
@@ -27,7 +27,7 @@ use Rattle.panel.specs.Levels.{knows}
 use Rattle.panel.specs.Verdict.{sectionsVerdict, verdictOf}
 use Rattle.panel.specs.Reading.{sectionsReading, afterVerdict, readingOf}
 use Rattle.promises.specs.Further.{merged, laidAnew, holds, EachKind, LowestLow, Further}
-use Rattle.promises.specs.FurtherLaws.{merged-fit, body-merged}
+use Rattle.promises.specs.FurtherLaws.{lowest-or-none, merged-fit, body-merged}
 use Rattle.promises.specs.PanelLaws.{passed, unknown-high, unknown-named, lowest-new, known-stays, bodies-same, missing-same, reading-same}
 use Rattle.promises.specs.LevelsLaws.{verdict-at-one}
 
@@ -107,6 +107,10 @@ module _ (level : ℕ) (image : List ℕ) (further : List Section) (f : Further 
     pub low-reading : (counts : Counts) → readingOf level (laidAnew image further) counts ≡ Refused (refusal 9 kind)
     unfolding readingOf
     low-reading counts = rw low-verdict
+
+-- There is no third case: all new kinds are 128 or above, or there is a lowest below 128.
+pub high-or-low : (further : List Section) → EachKind (λ kind. 128 ≤ kind) further ⊎ ((kind : ℕ) × LowestLow further kind)
+high-or-low = lowest-or-none
 
 -- ---- two levels
 

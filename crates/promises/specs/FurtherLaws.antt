@@ -1,6 +1,7 @@
 -- Laws of sections with further ones among them: what they hold, and that they fit.
 use mathlib.Core.Bool.{Bool, true, false, cond, _||_}
 use mathlib.Core.List.{List, [], _∷_}
+use mathlib.Core.Logic.{_⊎_, inl, inr, ⊎-elim, ⊎-map}
 use mathlib.Core.Option.{Option, none, some}
 use mathlib.Core.Path.{_≡_, refl, sym, ap, _∙_}
 use Prim.Native.Nat.{ℕ, suc, _+_, _≤_, _<_}
@@ -8,11 +9,11 @@ use native.Mathlib.Omega.{arith}
 use borrow.Author.Tests.{ltb-true, ltb-false, eqb-true, eqb-false, eq-eqb, ne-eqb}
 use lib.Dec.{ltb, eqb}
 use lib.ListN.{length, length-append}
-use Rattle.laws.specs.Cases.{decide, never}
+use Rattle.laws.specs.Cases.{split, decide, never}
 use Rattle.image.specs.Layout.{linePlace}
 use Rattle.image.specs.Sections.{Section, bodiesOf, Rising, Fit}
 use Rattle.image.specs.Find.{bodyOf, isThere}
-use Rattle.promises.specs.Further.{inserted, merged, holds, EachKind, EachOnce, IsKind}
+use Rattle.promises.specs.Further.{inserted, merged, holds, EachKind, EachOnce, IsKind, LowestLow}
 
 -- ---- each kind
 
@@ -24,6 +25,37 @@ each-held P kind (s ∷ ss) each h =
     decide (eqb kind (s .kind))
     (λ e. rw (eqb-true kind (s .kind) e) (each .0))
     (λ e. each-held P kind ss (each .1) (rw e at h))
+
+pub lowest-or-none : (ss : List Section) → EachKind (λ kind. 128 ≤ kind) ss ⊎ ((kind : ℕ) × LowestLow ss kind)
+unfolding bodyOf
+lowest-or-none [] = inl tt
+lowest-or-none (s ∷ ss) =
+    split 128 (s .kind)
+    (λ (high : 128 ≤ s .kind).
+    ⊎-map (λ above. (high, above))
+    (λ (l : (kind : ℕ) × LowestLow ss kind).
+    let other : eqb (l .0) (s .kind) ≡ false = ne-eqb (l .0) (s .kind) (λ same. omega (arith, l .1 .low)) in
+    (l .0, record { held = rw other (l .1 .held); low = l .1 .low; lowest = (λ low. omega arith, l .1 .lowest) }))
+    (lowest-or-none ss))
+    (λ (low : s .kind < 128).
+    let here : holds (s .kind) (s ∷ ss) ≡ true = rw (eq-eqb (s .kind) (s .kind) refl) in
+    inr (⊎-elim
+    (λ (above : EachKind (λ kind. 128 ≤ kind) ss). (s .kind, record { held = here; low = low; lowest = (λ h. omega arith, below (s .kind) 128 ss low above) }))
+    (λ (l : (kind : ℕ) × LowestLow ss kind).
+    split (s .kind) (l .0)
+    (λ (first : s .kind ≤ l .0). (s .kind, record { held = here; low = low; lowest = (λ h. omega arith, lower (s .kind) (l .0) ss first (l .1 .lowest)) }))
+    (λ (later : l .0 < s .kind).
+    let other : eqb (l .0) (s .kind) ≡ false = ne-eqb (l .0) (s .kind) (λ same. omega arith) in
+    (l .0, record { held = rw other (l .1 .held); low = l .1 .low; lowest = (λ h. omega arith, l .1 .lowest) })))
+    (lowest-or-none ss)))
+  where
+    lower : (a b : ℕ) (xs : List Section) → a ≤ b → EachKind (λ kind. kind < 128 → b ≤ kind) xs → EachKind (λ kind. kind < 128 → a ≤ kind) xs
+    lower a b [] h each = tt
+    lower a b (x ∷ xs) h each = (λ low. let k = each .0 low in omega arith, lower a b xs h (each .1))
+
+    below : (a b : ℕ) (xs : List Section) → a < b → EachKind (λ kind. b ≤ kind) xs → EachKind (λ kind. kind < 128 → a ≤ kind) xs
+    below a b [] h each = tt
+    below a b (x ∷ xs) h each = (λ low. omega (arith, each .0), below a b xs h (each .1))
 
 -- ---- what is held
 

@@ -3,3 +3,5 @@ pub mod FurtherLaws
 pub mod PanelLaws
 pub mod LevelsLaws
 pub mod Demand3
+pub mod ExampleImage
+pub mod Demand3Examples
