@@ -23,13 +23,14 @@ use Rattle.reading.specs.declared.Counts.{Counts}
 use Rattle.reading.specs.declared.Reading.{Reading}
 use Rattle.reading.specs.declared.Answer.{Answer}
 use Rattle.reading.specs.declared.Answer.the-variants.{Shown, Refused}
-use Rattle.panel.specs.Levels.{knows}
+use Rattle.panel.specs.Levels.{knows, mayPass}
 use Rattle.panel.specs.Verdict.{sectionsVerdict, verdictOf}
 use Rattle.panel.specs.Reading.{sectionsReading, afterVerdict, readingOf}
 use Rattle.promises.specs.Further.{merged, laidAnew, holds, EachKind, LowestLow, Further}
+use Rattle.promises.specs.Lower.{Below, LowestUnknown, NoneUnknown}
 use Rattle.promises.specs.FurtherLaws.{lowest-or-none, merged-fit, body-merged}
-use Rattle.promises.specs.PanelLaws.{passed, unknown-high, unknown-named, lowest-new, known-stays, bodies-same, missing-same, reading-same}
-use Rattle.promises.specs.LevelsLaws.{verdict-at-one}
+use Rattle.promises.specs.PanelLaws.{passed, rising-ascends, sections-ascend, unknown-high, held-passes, unknown-named, none-or-lowest, lowest-new, known-stays, bodies-same, missing-same, reading-same}
+use Rattle.promises.specs.LevelsLaws.{lower-accepts, lower-names, one-below-two, only-trim}
 
 module _ (level : ℕ) (image : List ℕ) (further : List Section) (f : Further level image further) where
   abbrev all : List Section
@@ -100,7 +101,7 @@ module _ (level : ℕ) (image : List ℕ) (further : List Section) (f : Further 
           p .known,
           image-good all fit,
           sections-of-image all,
-          unknown-named level 0 kind all (fit .rising) (lowest-new level (sections image) further kind (p .passed-over) (f .not-known) lowest),
+          unknown-named level 0 kind all (rising-ascends 0 all (fit .rising)) (lowest-new level (sections image) further kind (p .passed-over) (f .not-known) lowest),
         )
 
     -- And so it does for all counts.
@@ -112,12 +113,12 @@ module _ (level : ℕ) (image : List ℕ) (further : List Section) (f : Further 
 pub high-or-low : (further : List Section) → EachKind (λ kind. 128 ≤ kind) further ⊎ ((kind : ℕ) × LowestLow further kind)
 high-or-low = lowest-or-none
 
--- ---- two levels
+-- ---- a level and a lower one
 
-module _ (image : List ℕ) (counts : Counts) (reading : Reading) (shown : readingOf 2 image counts ≡ Shown reading) where
-  accepted : verdictOf 2 image ≡ Accepted
+module _ (higher : ℕ) (image : List ℕ) (counts : Counts) (reading : Reading) (shown : readingOf higher image counts ≡ Shown reading) where
+  accepted : verdictOf higher image ≡ Accepted
   unfolding readingOf
-  accepted = by (verdictOf 2 image) shown
+  accepted = by (verdictOf higher image) shown
     where
       by : (v : Verdict) → afterVerdict v (sectionsReading (sections image) counts) ≡ Shown reading → v ≡ Accepted
       by Accepted e = refl
@@ -127,15 +128,45 @@ module _ (image : List ℕ) (counts : Counts) (reading : Reading) (shown : readi
   unfolding readingOf
   measured = rw accepted at shown
 
+  module _ (lower : ℕ) (below : Below lower higher) where
+    -- Where a panel gives a reading, a panel of a lower level gives the same one if it may pass over all kinds that it does not know.
+    pub lower-reads : NoneUnknown lower (sections image) → readingOf lower image counts ≡ Shown reading
+    unfolding readingOf
+    lower-reads none = rw (lower-accepts lower higher below image accepted none) measured
+
+    -- Else it refuses by 9 and names the lowest that it may not pass over.
+    pub lower-refuses : (kind : ℕ) → LowestUnknown lower (sections image) kind → readingOf lower image counts ≡ Refused (refusal 9 kind)
+    unfolding readingOf
+    lower-refuses kind l = rw (lower-names lower higher below image accepted kind l)
+
+    -- There is no third case.
+    pub reads-or-refuses : NoneUnknown lower (sections image) ⊎ ((kind : ℕ) × LowestUnknown lower (sections image) kind)
+    reads-or-refuses = none-or-lowest lower 0 (sections image) (sections-ascend image (passed higher image accepted .laid))
+
+-- ---- levels 1 and 2
+
+module _ (image : List ℕ) (counts : Counts) (reading : Reading) (shown : readingOf 2 image counts ≡ Shown reading) where
+  passes-at-two : (kind : ℕ) → holds kind (sections image) ≡ true → mayPass 2 kind ≡ true
+  passes-at-two kind = held-passes 2 kind (sections image) (passed 2 image (accepted 2 image counts reading shown) .passed-over)
+
   -- Where a level 2 panel gives a reading and the image has no section of kind 4, a level 1 panel gives the same reading.
   pub without-trim : holds 4 (sections image) ≡ false → readingOf 1 image counts ≡ Shown reading
-  unfolding readingOf
-  without-trim absent = rw (verdict-at-one image accepted, absent) measured
+  without-trim absent =
+      lower-reads 2 image counts reading shown 1 one-below-two
+      (λ kind h.
+      decide (mayPass 1 kind)
+      (λ pass. pass)
+      (λ (stop : mayPass 1 kind ≡ false). let trim = only-trim kind (passes-at-two kind h) stop in never (sym absent ∙ (rw trim at h))))
 
   -- Where it has one, a level 1 panel refuses by 9 and names kind 4.
   pub with-trim : holds 4 (sections image) ≡ true → readingOf 1 image counts ≡ Refused (refusal 9 4)
-  unfolding readingOf
-  with-trim there = rw (verdict-at-one image accepted, there)
+  with-trim there =
+      lower-refuses 2 image counts reading shown 1 one-below-two 4
+      (record {
+        held = there;
+        unknown = unfold knows in refl;
+        lowest = λ other h stop. let trim = only-trim other (passes-at-two other h) stop in omega arith;
+      })
 
   -- It refuses exactly if kind 4 is present, and gives the same reading exactly if it is not.
   pub refuses-exactly : (readingOf 1 image counts ≡ Refused (refusal 9 4)) ↔ (holds 4 (sections image) ≡ true)

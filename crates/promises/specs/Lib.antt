@@ -1,5 +1,6 @@
 pub mod Further
 pub mod FurtherLaws
+pub mod Lower
 pub mod PanelLaws
 pub mod LevelsLaws
 pub mod Demand3

@@ -1,9 +1,9 @@
 -- Laws of verdict and reading over sections with further ones among them, at every level.
 use mathlib.Core.Bool.{Bool, true, false, cond, _||_, or-true, or-false}
 use mathlib.Core.List.{List, [], _∷_}
-use mathlib.Core.Option.{Option, none, some}
+use mathlib.Core.Logic.{_⊎_, inl, inr, ⊎-map}
 use mathlib.Core.Path.{_≡_, refl, sym, ap, _∙_}
-use Prim.Native.Nat.{ℕ, _≤_, _<_}
+use Prim.Native.Nat.{ℕ, zero, suc, _+_, _≤_, _<_}
 use native.Mathlib.Omega.{arith}
 use borrow.Author.Tests.{eqb-true, eqb-false, eq-eqb, ne-eqb, le-leb, lt-leb, leb-true, leb-false}
 use lib.Dec.{leb, ltb, eqb}
@@ -12,14 +12,16 @@ use Rattle.refusals.specs.declared.Verdict.{Verdict}
 use Rattle.refusals.specs.declared.Verdict.the-variants.{Accepted, Refused}
 use Rattle.refusals.specs.Refusals.{refusal, ask, andThen}
 use Rattle.refusals.specs.VerdictLaws.{asked, first-passed, next-passed}
-use Rattle.image.specs.Layout.{layoutVerdict}
-use Rattle.image.specs.Sections.{Section, sections, Rising}
+use Rattle.image.specs.Layout.{lineCount, linePlace, kindAt, lengthAt, linesVerdict, layoutVerdict}
+use Rattle.image.specs.LayoutLaws.{line-passed, layout-passed}
+use Rattle.image.specs.Sections.{Section, sectionsFrom, sections, Rising}
 use Rattle.image.specs.Find.{bodyOf}
 use Rattle.reading.specs.declared.Counts.{Counts}
 use Rattle.panel.specs.Levels.{isLevel, knows, mayPass}
 use Rattle.panel.specs.Verdict.{levelVerdict, unknownVerdict, presentVerdict, missingVerdict, bodyVerdict, bodiesVerdict, sectionsVerdict, verdictOf}
 use Rattle.panel.specs.Reading.{sectionsReading}
 use Rattle.promises.specs.Further.{inserted, merged, holds, EachKind, LowestLow}
+use Rattle.promises.specs.Lower.{LowestUnknown, NoneUnknown}
 use Rattle.promises.specs.FurtherLaws.{each-held, holds-merged, body-merged}
 
 -- ---- an accepted image, check by check
@@ -44,6 +46,28 @@ passed level image e =
       present = first-passed (missingVerdict (sections image)) _ bodies;
       right = next-passed (missingVerdict (sections image)) _ bodies;
     }
+
+-- ---- the order of kinds
+
+-- kinds strictly rise above `previous`
+abbrev pub Ascending : (previous : ℕ) → List Section → Type 0
+Ascending previous [] = Unit {0}
+Ascending previous (s ∷ ss) = (previous < s .kind) × Ascending (s .kind) ss
+
+pub rising-ascends : (previous : ℕ) (ss : List Section) → Rising previous ss → Ascending previous ss
+rising-ascends previous [] rising = tt
+rising-ascends previous (s ∷ ss) rising = (rising .0, rising-ascends (s .kind) ss (rising .2))
+
+lines-ascend : (image : List ℕ) (left i previous offset : ℕ) → linesVerdict image left i previous offset ≡ Accepted → Ascending previous (sectionsFrom image left i)
+unfolding sectionsFrom
+lines-ascend image zero i previous offset e = tt
+lines-ascend image (suc left) i previous offset e =
+    let p = line-passed image left i previous offset e in
+    (p .right .rises, lines-ascend image left (i + 1) (kindAt image i) (offset + lengthAt image i) (p .others))
+
+pub sections-ascend : (image : List ℕ) → layoutVerdict image ≡ Accepted → Ascending 0 (sections image)
+unfolding sections
+sections-ascend image good = lines-ascend image (lineCount image) 0 0 (linePlace (lineCount image)) (layout-passed image good .lines)
 
 -- ---- 9
 
@@ -73,22 +97,23 @@ module _ (level : ℕ) where
       (λ f. rw (eqb-true kind (s .kind) f) (asked (mayPass level (s .kind)) 9 (s .kind) (first-passed _ (unknownVerdict level ss) e)))
       (λ f. held-passes kind ss (next-passed (ask (mayPass level (s .kind)) 9 (s .kind)) (unknownVerdict level ss) e) (rw f at h))
 
-  -- the lowest kind held that may not be passed over
-  pub record LowestUnknown (ss : List Section) (kind : ℕ) : Type 0 where
-    pub held : holds kind ss ≡ true
-    pub unknown : mayPass level kind ≡ false
-    pub lowest : (other : ℕ) → holds other ss ≡ true → mayPass level other ≡ false → kind ≤ other
-
   -- in rising order a kind held stands above those before it
-  held-above : (previous kind : ℕ) (ss : List Section) → Rising previous ss → holds kind ss ≡ true → previous < kind
+  held-above : (previous kind : ℕ) (ss : List Section) → Ascending previous ss → holds kind ss ≡ true → previous < kind
   unfolding bodyOf
   held-above previous kind [] rising h = never h
   held-above previous kind (s ∷ ss) rising h =
       decide (eqb kind (s .kind))
       (λ e. rw (eqb-true kind (s .kind) e) (rising .0))
-      (λ e. let above = held-above (s .kind) kind ss (rising .2) (rw e at h) in omega (arith, rising .0))
+      (λ e. let above = held-above (s .kind) kind ss (rising .1) (rw e at h) in omega (arith, rising .0))
 
-  pub unknown-named : (previous kind : ℕ) (ss : List Section) → Rising previous ss → LowestUnknown ss kind → unknownVerdict level ss ≡ Refused (refusal 9 kind)
+  pub unknown-none : (ss : List Section) → NoneUnknown level ss → unknownVerdict level ss ≡ Accepted
+  unfolding unknownVerdict bodyOf
+  unknown-none [] none = refl
+  unknown-none (s ∷ ss) none =
+      rw (none (s .kind) (rw (eq-eqb (s .kind) (s .kind) refl)))
+      (unknown-none ss (λ kind h. none kind (decide (eqb kind (s .kind)) (λ e. rw e) (λ e. rw e h))))
+
+  pub unknown-named : (previous kind : ℕ) (ss : List Section) → Ascending previous ss → LowestUnknown level ss kind → unknownVerdict level ss ≡ Refused (refusal 9 kind)
   unfolding unknownVerdict bodyOf
   unknown-named previous kind [] rising l = never (l .held)
   unknown-named previous kind (s ∷ ss) rising l =
@@ -99,11 +124,11 @@ module _ (level : ℕ) where
       rw (stops, same))
       (λ (e : eqb kind (s .kind) ≡ false).
       let held : holds kind ss ≡ true = rw e at (l .held) in
-      let above = held-above (s .kind) kind ss (rising .2) held in
+      let above = held-above (s .kind) kind ss (rising .1) held in
       let here : holds (s .kind) (s ∷ ss) ≡ true = rw (eq-eqb (s .kind) (s .kind) refl) in
       decide (mayPass level (s .kind))
       (λ (f : mayPass level (s .kind) ≡ true).
-      rw f (unknown-named (s .kind) kind ss (rising .2)
+      rw f (unknown-named (s .kind) kind ss (rising .1)
       (record {
         held = held;
         unknown = l .unknown;
@@ -111,9 +136,40 @@ module _ (level : ℕ) where
       })))
       (λ (f : mayPass level (s .kind) ≡ false). let least = l .lowest (s .kind) here f in absurd (omega arith)))
 
+  -- there is none such, or a lowest
+  pub none-or-lowest : (previous : ℕ) (ss : List Section) → Ascending previous ss → NoneUnknown level ss ⊎ ((kind : ℕ) × LowestUnknown level ss kind)
+  unfolding bodyOf
+  none-or-lowest previous [] rising = inl (λ kind h. never h)
+  none-or-lowest previous (s ∷ ss) rising =
+      let here : holds (s .kind) (s ∷ ss) ≡ true = rw (eq-eqb (s .kind) (s .kind) refl) in
+      decide (mayPass level (s .kind))
+      (λ (f : mayPass level (s .kind) ≡ true).
+      ⊎-map
+      (λ none kind h. decide (eqb kind (s .kind)) (λ e. rw (eqb-true kind (s .kind) e) f) (λ e. none kind (rw e at h)))
+      (λ (l : (kind : ℕ) × LowestUnknown level ss kind). (
+        l .0,
+        record {
+          held = decide (eqb (l .0) (s .kind)) (λ e. rw e) (λ e. rw e (l .1 .held));
+          unknown = l .1 .unknown;
+          lowest = λ other h g. decide (eqb other (s .kind)) (λ e. never (sym g ∙ ap (mayPass level) (eqb-true other (s .kind) e) ∙ f)) (λ e. l .1 .lowest other (rw e at h) g);
+        },
+      ))
+      (none-or-lowest (s .kind) ss (rising .1)))
+      (λ (f : mayPass level (s .kind) ≡ false).
+      inr (
+        s .kind,
+        record {
+          held = here;
+          unknown = f;
+          lowest = λ other h g. decide (eqb other (s .kind))
+              (λ e. let same = eqb-true other (s .kind) e in omega arith)
+              (λ e. let above = held-above (s .kind) other ss (rising .1) (rw e at h) in omega arith);
+        },
+      ))
+
   -- the lowest new kind below 128 is the lowest of all that may not be passed over
   pub lowest-new : (ss further : List Section) (kind : ℕ) → unknownVerdict level ss ≡ Accepted → EachKind (λ other. knows level other ≡ false) further
-      → LowestLow further kind → LowestUnknown (merged ss further) kind
+      → LowestLow further kind → LowestUnknown level (merged ss further) kind
   lowest-new ss further kind e unknown l =
       let new = each-held (λ other. knows level other ≡ false) kind further unknown (l .held) in
       record {
