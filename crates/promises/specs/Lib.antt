@@ -6,3 +6,7 @@ pub mod LevelsLaws
 pub mod Demand3
 pub mod ExampleImage
 pub mod Demand3Examples
+pub mod RefusalRows
+pub mod RowsLaws
+pub mod MeasuredRows
+pub mod VerdictRows
