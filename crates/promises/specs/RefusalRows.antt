@@ -15,13 +15,13 @@ pub data TextRow : (number detail : ℕ) → Type 0 where
 -- of the writer
 pub data WriterRow : (number detail : ℕ) → Type 0 where
   tooLarge : WriterRow 4 0
-  noRoom : WriterRow 17 0
+  noTextRoom : WriterRow 17 0
 
 -- of the builder
 pub data BuilderRow : (number detail : ℕ) → Type 0 where
   lines : BuilderRow 18 0
   lengths : BuilderRow 19 0
-  noRoom : BuilderRow 17 0
+  noImageRoom : BuilderRow 17 0
 
 -- of an image's layout: a contents line, or the number of lines where only the end is wrong
 pub data LayoutRow (image : List ℕ) : (number detail : ℕ) → Type 0 where

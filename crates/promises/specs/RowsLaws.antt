@@ -1,21 +1,25 @@
 -- Which rows a check, a number and an answer are refused by, step by step.
-use mathlib.Core.Bool.{Bool, true, false, cond}
+use mathlib.Core.Bool.{Bool, true, false}
 use mathlib.Core.List.{List, [], _∷_}
+use mathlib.Core.Logic.{_⊎_, inl, inr}
 use mathlib.Core.Path.{_≡_, refl}
 use Prim.Native.Nat.{ℕ}
-use native.Mathlib.Omega.{arith}
 use lib.Dec.{leb}
 use lib.IntN.{ℤ, natAbs}
-use Rattle.refusals.specs.declared.Refusal.{Refusal}
 use Rattle.refusals.specs.declared.Verdict.{Verdict}
 use Rattle.refusals.specs.declared.Verdict.the-variants.{Accepted, Refused as NotAccepted}
-use Rattle.refusals.specs.Refusals.{Outcome, result, refused, checked, refusal, ask, andThen, fieldsVerdict}
+use Rattle.refusals.specs.declared.Filled.{Filled}
+use Rattle.refusals.specs.declared.Filled.the-variants.{Length}
+use Rattle.refusals.specs.Paper.{verdictNumber, verdictDetail, filledNumber, filledDetail, filledLength}
+use Rattle.refusals.specs.Refusals.{Outcome, result, refused, checked, ask, andThen, fieldsVerdict, Fills}
 use Rattle.reading.specs.declared.value.Value.{Value}
 use Rattle.reading.specs.declared.value.Value.the-variants.{Known, Refused as NotKnown}
+use Rattle.reading.specs.declared.Reading.{Reading}
 use Rattle.reading.specs.declared.Answer.{Answer}
 use Rattle.reading.specs.declared.Answer.the-variants.{Shown, Refused}
 use Rattle.reading.specs.Value.{given, withValue, within}
 use Rattle.reading.specs.Measured.{andShow}
+use Rattle.promises.specs.Paper.{answerNumber, answerDetail}
 
 module _ (Row : (number detail : ℕ) → Type 0) where
   abbrev pub VerdictBy : Verdict → Type 0
@@ -50,15 +54,18 @@ module _ (Row : (number detail : ℕ) → Type 0) where
   fields-by number [] row = tt
   fields-by number (right ∷ fields) row = then-by (ask right number 0) (fieldsVerdict number fields) (ask-by right number 0 (λ e. row)) (λ e. fields-by number fields row)
 
-  pub verdict-by : (v : Verdict) (r : Refusal) → VerdictBy Row v → v ≡ NotAccepted r → Row (r .number) (r .detail)
-  verdict-by v r by e = rw e at by
+  pub verdict-told : (v : Verdict) → VerdictBy Row v → (v ≡ Accepted) ⊎ Row (verdictNumber v) (verdictDetail v)
+  verdict-told Accepted by = inl refl
+  verdict-told (NotAccepted r) by = inr by
 
   pub checked-by : (v : Verdict) (x : List ℕ) → VerdictBy Row v → OutcomeBy Row (checked v x)
   checked-by Accepted x by = tt
   checked-by (NotAccepted r) x by = by
 
-  pub outcome-by : (o : Outcome) (r : Refusal) → OutcomeBy Row o → o ≡ refused r → Row (r .number) (r .detail)
-  outcome-by o r by e = rw e at by
+  pub filled-told : (o : Outcome) (before after : List ℕ) (answer : Filled) → OutcomeBy Row o → Fills o before answer after
+      → (answer ≡ Length (filledLength answer)) ⊎ Row (filledNumber answer) (filledDetail answer)
+  filled-told (result x) before after answer by fills = inl (rw (fills .answers))
+  filled-told (refused r) before after answer by fills = inr (rw (fills .answers) by)
 
   -- ---- numbers on the way to a reading
 
@@ -80,8 +87,9 @@ module _ (Row : (number detail : ℕ) → Type 0) where
   show-by (Known z) next a b = b z
   show-by (NotKnown r) next a b = a
 
-  pub answer-by : (a : Answer) (r : Refusal) → AnswerBy Row a → a ≡ Refused r → Row (r .number) (r .detail)
-  answer-by a r by e = rw e at by
+  pub answer-told : (a : Answer) → AnswerBy Row a → ((reading : Reading) × (a ≡ Shown reading)) ⊎ Row (answerNumber a) (answerDetail a)
+  answer-told (Shown reading) by = inl (reading, refl)
+  answer-told (Refused r) by = inr by
 
 -- rows that are also rows of another table
 pub other-rows : (Row Other : (number detail : ℕ) → Type 0) → ((number detail : ℕ) → Row number detail → Other number detail) → (v : Verdict)

@@ -1,5 +1,5 @@
 -- The rows of a layout, of a verdict and of a reading.
-use mathlib.Core.Bool.{Bool, true, false, _||_}
+use mathlib.Core.Bool.{Bool, true, false, _&&_, _||_}
 use mathlib.Core.List.{List, [], _∷_}
 use mathlib.Core.Logic.{_⊎_, inl, inr, ⊎-elim}
 use mathlib.Core.Option.{Option, none, some}
@@ -13,6 +13,7 @@ use lib.IntN.{ℤ, natAbs}
 use lib.ListN.{length}
 use Rattle.laws.specs.Cases.{decide, never}
 use Rattle.laws.specs.Sums.{total}
+use Rattle.numbers.specs.Fields.{numberAt}
 use Rattle.refusals.specs.declared.Verdict.{Verdict}
 use Rattle.refusals.specs.declared.Verdict.the-variants.{Accepted, Refused as NotAccepted}
 use Rattle.refusals.specs.Refusals.{ask, fieldsVerdict}
@@ -60,8 +61,10 @@ module _ (image : List ℕ) where
   pub layout-by : VerdictBy (LayoutRow image) (layoutVerdict image)
   unfolding layoutVerdict startVerdict countVerdict
   layout-by =
-      then-by (LayoutRow image) (startVerdict image) _ (ask-by (LayoutRow image) _ 5 0 (λ e. start))
-      (λ e. then-by (LayoutRow image) (countVerdict image) _ (ask-by (LayoutRow image) _ 6 0 (λ f. count))
+      let started = leb 2 (length image) && leb (length image) 4096 && eqb (numberAt 1 image 0) 0x51 in
+      let counted = leb 1 (lineCount image) && leb (lineCount image) 16 && leb (linePlace (lineCount image)) (length image) in
+      then-by (LayoutRow image) (startVerdict image) _ (ask-by (LayoutRow image) started 5 0 (λ e. start))
+      (λ e. then-by (LayoutRow image) (countVerdict image) _ (ask-by (LayoutRow image) counted 6 0 (λ f. count))
       (λ f. then-by (LayoutRow image) (linesVerdict image (lineCount image) 0 0 (linePlace (lineCount image))) (sumsVerdict image (lineCount image) 0)
       (lines-by (lineCount image) 0 0 (linePlace (lineCount image)) (omega arith))
       (λ g. sums-by (lineCount image) 0 (omega arith))))
