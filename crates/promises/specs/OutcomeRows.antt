@@ -8,7 +8,7 @@ use lib.IntN.{ℤ, natAbs}
 use lib.ListN.{length}
 use Rattle.laws.specs.Cases.{decide}
 use Rattle.refusals.specs.declared.Verdict.{Verdict}
-use Rattle.refusals.specs.Refusals.{Outcome, result, refused, checked, ask}
+use Rattle.refusals.specs.Refusals.{Outcome, result, refused, ask, andThen}
 use Rattle.hextext.specs.Text.{readText}
 use Rattle.hextext.specs.Written.{textOf, textLength, writeImage}
 use Rattle.hexformat.specs.Agrees.{refused-known}
@@ -40,7 +40,7 @@ unfolding writeImage
 writer-rows size x =
     let small = leb (length x) 4096 in
     let fits = leb (textLength (length x)) size in
-    checked-by WriterRow _ (textOf x)
+    checked-by WriterRow (andThen (ask small 4 0) (ask fits 17 0)) (textOf x)
     (then-by WriterRow (ask small 4 0) (ask fits 17 0) (ask-by WriterRow small 4 0 (λ e. tooLarge)) (λ e. ask-by WriterRow fits 17 0 (λ f. noTextRoom)))
 
 pub builder-rows : (size : ℕ) (ls : List Line) (bodies : List ℕ) → OutcomeBy BuilderRow (buildImage size ls bodies)

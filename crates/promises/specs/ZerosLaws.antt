@@ -18,7 +18,7 @@ use Rattle.panel.specs.Levels.{isLevel}
 use Rattle.panel.specs.Verdict.{verdictOf}
 use Rattle.panel.specs.Reading.{readingOf}
 
-zeros-at : (size i : ℕ) → getD (replicate size 0) i 0 ≡ 0
+zeros-at : (size i : ℕ) → _≡_ {A = ℕ} (getD (replicate size 0) i 0) 0
 zeros-at zero i = refl
 zeros-at (suc size) zero = refl
 zeros-at (suc size) (suc i) = zeros-at size i
