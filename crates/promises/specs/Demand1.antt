@@ -1,0 +1,120 @@
+-- The first demand: every call answers, a refusal says its number and detail, and it leaves nothing behind.
+use mathlib.Core.Bool.{Bool, cond}
+use mathlib.Core.List.{List, _++_}
+use mathlib.Core.Logic.{_⊎_}
+use mathlib.Core.Path.{_≡_, refl, _∙_}
+use Prim.Native.Nat.{ℕ, _+_, _-_, _≤_}
+use native.Mathlib.Omega.{arith}
+use lib.Dec.{leb}
+use lib.IntN.{ℤ, natAbs}
+use lib.ListN.{length, take, drop, replicate}
+use Rattle.refusals.specs.declared.Refusal.{Refusal}
+use Rattle.refusals.specs.declared.Verdict.{Verdict}
+use Rattle.refusals.specs.declared.Verdict.the-variants.{Accepted, Refused as NotAccepted}
+use Rattle.refusals.specs.declared.Filled.{Filled}
+use Rattle.refusals.specs.declared.Filled.the-variants.{Length, Refused as NotFilled}
+use Rattle.refusals.specs.Paper.{verdictNumber, verdictDetail, filledNumber, filledDetail, filledLength}
+use Rattle.refusals.specs.Refusals.{Outcome, result, refused, answerTo, heldAfter, refusal, Fills}
+use Rattle.hextext.specs.Text.{readText}
+use Rattle.hextext.specs.Written.{writeImage}
+use Rattle.image.specs.Layout.{layoutVerdict}
+use Rattle.builder.specs.declared.Line.{Line}
+use Rattle.builder.specs.Build.{buildImage}
+use Rattle.bodies.specs.declared.Identity.{Identity}
+use Rattle.bodies.specs.declared.Set.{Set}
+use Rattle.reading.specs.declared.Counts.{Counts}
+use Rattle.reading.specs.declared.Reading.{Reading}
+use Rattle.reading.specs.declared.Answer.{Answer}
+use Rattle.reading.specs.declared.Answer.the-variants.{Shown, Refused}
+use Rattle.reading.specs.declared.Trimming.{Trimming}
+use Rattle.reading.specs.Measured.{measuredOf}
+use Rattle.panel.specs.Levels.{isLevel}
+use Rattle.panel.specs.Verdict.{verdictOf}
+use Rattle.panel.specs.Reading.{readingOf}
+use Rattle.panel.specs.Load.{loadText}
+use Rattle.promises.specs.Paper.{answerNumber, answerDetail}
+use Rattle.promises.specs.RefusalRows.{TextRow, WriterRow, BuilderRow, LayoutRow, VerdictRow, MeasuredRow, ReadingRow, LoadRow}
+use Rattle.promises.specs.RowsLaws.{verdict-told, filled-told, answer-told}
+use Rattle.promises.specs.OutcomeRows.{text-rows, writer-rows, builder-rows, measured-rows, load-rows}
+use Rattle.promises.specs.VerdictRows.{layout-by, verdict-rows, reading-rows}
+use Rattle.promises.specs.ZerosLaws.{part-starts, zeros-refused}
+
+-- ---- every call answers, by a result or by a row of the table
+-- (A contract is an equation with a total definition, for every input. Below stands what the answer can be.)
+
+module _ (before after : List ℕ) (answer : Filled) where
+  -- Reading a text answers a length, or 1 to 4 at a line from 1 on.
+  pub read-answers : (text : List ℕ) → Fills (readText (length before) text) before answer after
+      → (answer ≡ Length (filledLength answer)) ⊎ TextRow (filledNumber answer) (filledDetail answer)
+  read-answers text = filled-told TextRow (readText (length before) text) before after answer (text-rows (length before) text)
+
+  -- Writing a text answers a length, or 4 or 17 with detail 0.
+  pub write-answers : (image : List ℕ) → Fills (writeImage (length before) image) before answer after
+      → (answer ≡ Length (filledLength answer)) ⊎ WriterRow (filledNumber answer) (filledDetail answer)
+  write-answers image = filled-told WriterRow (writeImage (length before) image) before after answer (writer-rows (length before) image)
+
+  -- Building an image answers a length, or 18, 19 or 17 with detail 0.
+  pub build-answers : (lines : List Line) (bodies : List ℕ) → Fills (buildImage (length before) lines bodies) before answer after
+      → (answer ≡ Length (filledLength answer)) ⊎ BuilderRow (filledNumber answer) (filledDetail answer)
+  build-answers lines bodies = filled-told BuilderRow (buildImage (length before) lines bodies) before after answer (builder-rows (length before) lines bodies)
+
+  -- A load answers a length, or the text's refusal, or the panel's on the image that the text says.
+  pub load-answers : (level : ℕ) (text : List ℕ) → Fills (loadText level (length before) text) before answer after
+      → (answer ≡ Length (filledLength answer)) ⊎ LoadRow level (filledNumber answer) (filledDetail answer)
+  load-answers level text = filled-told (LoadRow level) (loadText level (length before) text) before after answer (load-rows level (length before) text)
+
+-- A layout is good, or 5 or 6 with detail 0, 7 with a line's index or the number of lines, or 8 with a line's index.
+pub layout-answers : (image : List ℕ)
+    → (layoutVerdict image ≡ Accepted) ⊎ LayoutRow image (verdictNumber (layoutVerdict image)) (verdictDetail (layoutVerdict image))
+layout-answers image = verdict-told (LayoutRow image) (layoutVerdict image) (layout-by image)
+
+-- A panel accepts an image, or refuses by 20, 5 to 13, 15 or 16: by 9 with the lowest unknown kind below 128, by 10 with the lowest missing kind.
+pub verdict-answers : (level : ℕ) (image : List ℕ)
+    → (verdictOf level image ≡ Accepted) ⊎ VerdictRow level image (verdictNumber (verdictOf level image)) (verdictDetail (verdictOf level image))
+verdict-answers level image = verdict-told (VerdictRow level image) (verdictOf level image) (verdict-rows level image)
+
+-- A reading is shown, or refused as the verdict is, or by 21 to 26 with a channel, an X or a set's kind.
+pub reading-answers : (level : ℕ) (image : List ℕ) (counts : Counts)
+    → ((reading : Reading) × (readingOf level image counts ≡ Shown reading))
+    ⊎ ReadingRow level image (answerNumber (readingOf level image counts)) (answerDetail (readingOf level image counts))
+reading-answers level image counts = answer-told (ReadingRow level image) (readingOf level image counts) (reading-rows level image counts)
+
+-- Counts with any bodies answer a reading, or 21 to 26, or 15 where the trim is none that a verdict passes.
+pub measured-answers : (counts : Counts) (identity : Identity) (pset : Set) (pgrid : List (List ℤ)) (tset : Set) (tgrid : List (List ℤ)) (trimming : Trimming)
+    → ((reading : Reading) × (measuredOf counts identity pset pgrid tset tgrid trimming ≡ Shown reading))
+    ⊎ MeasuredRow (answerNumber (measuredOf counts identity pset pgrid tset tgrid trimming)) (answerDetail (measuredOf counts identity pset pgrid tset tgrid trimming))
+measured-answers counts identity pset pgrid tset tgrid trimming =
+    answer-told MeasuredRow (measuredOf counts identity pset pgrid tset tgrid trimming) (measured-rows counts identity pset pgrid tset tgrid trimming)
+
+-- ---- a refusal leaves nothing behind
+
+-- A refusal holds no reading.
+pub refusal-shows-nothing : (answer : Answer) (r : Refusal) (reading : Reading) → answer ≡ Refused r → answer ≡ Shown reading → ⊥
+refusal-shows-nothing answer r reading e f = let z : _≡_ {A = ℕ} 0 1 = cc in omega arith
+
+module _ (outcome : Outcome) (before after : List ℕ) where
+  -- Whatever was lent to hold a result holds zeros after a refusal.
+  pub refused-zeros : (r : Refusal) → Fills outcome before (NotFilled r) after → after ≡ replicate (length before) 0
+  refused-zeros r fills = by outcome (fills .answers) (fills .holds)
+    where
+      by : (o : Outcome) → NotFilled r ≡ answerTo o → after ≡ heldAfter (length before) o → after ≡ replicate (length before) 0
+      by (refused q) e h = h
+      by (result x) e h = let z : _≡_ {A = ℕ} 0 1 = cc in absurd (omega arith)
+
+  -- And after a success it holds the result, whose length the answer gives, and zeros after it.
+  pub filled-holds : (n : ℕ) → Fills outcome before (Length n) after
+      → (x : List ℕ) × (outcome ≡ result x) × (n ≡ length x) × (after ≡ x ++ replicate (length before - n) 0)
+  filled-holds n fills = by outcome refl (fills .answers) (fills .holds)
+    where
+      by : (o : Outcome) → outcome ≡ o → Length n ≡ answerTo o → after ≡ heldAfter (length before) o
+          → (x : List ℕ) × (outcome ≡ result x) × (n ≡ length x) × (after ≡ x ++ replicate (length before - n) 0)
+      by (result x) o e h = let size : n ≡ length x = cc in (x, o, size, rw size h)
+      by (refused r) o e h = let z : _≡_ {A = ℕ} 0 1 = cc in absurd (omega arith)
+
+-- After a refused load no panel of any level gives a reading for any counts, not from the buffer and not from any part of it.
+pub no-reading-after : (level : ℕ) (text before after : List ℕ) (r : Refusal) → Fills (loadText level (length before) text) before (NotFilled r) after
+    → (panel start n : ℕ) (counts : Counts)
+    → readingOf panel (take n (drop start after)) counts ≡ Refused (cond (isLevel panel) (refusal 5 0) (refusal 20 0))
+no-reading-after level text before after r fills panel start n counts =
+    let zeros = refused-zeros (loadText level (length before) text) before after r fills in
+    rw zeros (zeros-refused (take n (drop start (replicate (length before) 0))) (part-starts (length before) start n) panel counts)

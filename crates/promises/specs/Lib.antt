@@ -1,0 +1,16 @@
+pub mod Further
+pub mod Lower
+pub mod ExampleImage
+pub mod Paper
+pub mod RefusalRows
+pub mod Demand1
+pub mod Demand3
+pub mod Demand3Examples
+pub mod FurtherLaws
+pub mod PanelLaws
+pub mod LevelsLaws
+pub mod RowsLaws
+pub mod MeasuredRows
+pub mod VerdictRows
+pub mod OutcomeRows
+pub mod ZerosLaws
