@@ -1,22 +1,16 @@
--- Document 01's example of the show program, as verdicts; and a refused load.
+-- Document 01's example of the show program, as verdicts.
 use mathlib.Core.Path.{_≡_, refl}
 use mathlib.Core.List.{List, [], _∷_}
 use Prim.Native.Nat.{ℕ}
 use Rattle.laws.specs.Sums.{total}
 use Rattle.numbers.specs.Fields.{littleEndian, numberAt}
 use Rattle.refusals.specs.declared.Verdict.the-variants.{Refused}
-use Rattle.refusals.specs.declared.Filled.the-variants.{Refused as NotFilled}
-use Rattle.refusals.specs.Refusals.{refusal, Fills}
-use Rattle.hextext.specs.Text.{reading, readText}
+use Rattle.refusals.specs.Refusals.{refusal}
 use Rattle.image.specs.Layout.{startVerdict, countVerdict, linesVerdict, sumsVerdict, layoutVerdict}
 use Rattle.image.specs.Sections.{sectionsFrom, sections}
 use Rattle.image.specs.Find.{bodyOf}
-use Rattle.reading.specs.declared.Counts.{Counts}
 use Rattle.panel.specs.Levels.{knows}
 use Rattle.panel.specs.Verdict.{unknownVerdict, missingVerdict, sectionsVerdict, verdictOf}
-use Rattle.panel.specs.Reading.{readingOf}
-use Rattle.panel.specs.Load.{loadText}
-use Rattle.panel.specs.AfterRefusal.{IsRefusal, no-reading-after-refusal}
 
 -- one empty section
 abbrev image : (kind : ℕ) → List ℕ
@@ -33,11 +27,3 @@ level-2 = refl
 pub unknown-127 : verdictOf 1 (image 127) ≡ Refused (refusal 9 127)
 unfolding verdictOf sectionsVerdict unknownVerdict missingVerdict knows sections sectionsFrom bodyOf layoutVerdict startVerdict countVerdict linesVerdict sumsVerdict numberAt littleEndian total
 unknown-127 = refl
-
--- a load of no text into a buffer that held something
-pub refused-load : Fills (loadText 1 2 []) (7 ∷ 7 ∷ []) (NotFilled (refusal 1 1)) (0 ∷ 0 ∷ [])
-unfolding loadText readText reading
-refused-load = record { answers = refl; holds = refl }
-
-pub no-reading-met : (counts : Counts) → IsRefusal (readingOf 2 (0 ∷ 0 ∷ []) counts)
-no-reading-met counts = no-reading-after-refusal 1 [] (7 ∷ 7 ∷ []) (0 ∷ 0 ∷ []) (refusal 1 1) refused-load 2 2 counts

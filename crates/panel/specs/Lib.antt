@@ -6,5 +6,4 @@ pub mod LevelsLaws
 pub mod VerdictLaws
 pub mod ReadingLaws
 pub mod LoadLaws
-pub mod AfterRefusal
 pub mod Examples

@@ -6,6 +6,7 @@ pub mod RefusalRows
 pub mod Demand1
 pub mod Demand3
 pub mod Demand3Examples
+pub mod Starred
 pub mod FurtherLaws
 pub mod PanelLaws
 pub mod LevelsLaws

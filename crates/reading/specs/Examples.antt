@@ -48,10 +48,10 @@ unfolding scaledOf within rounded
 x-beyond = refl
 
 -- A0 6,553,600, A1 65,536, B0 131,072, B1 3, XP 2^23, XT -2^23
-abbrev firstRow : List ℤ
+abbrev pub firstRow : List ℤ
 firstRow = pos 6553600 ∷ pos 65536 ∷ []
 
-abbrev secondRow : List ℤ
+abbrev pub secondRow : List ℤ
 secondRow = pos 131072 ∷ pos 3 ∷ []
 
 pub first-row : rowSum 2 (negℤ (pos (2 ^ 23))) firstRow ≡ Known (pos 6520832)
