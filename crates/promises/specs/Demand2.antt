@@ -100,9 +100,9 @@ built-line-found = built-found-line
 -- What a panel shows for an accepted image is worked out from the counts and from the image's own bodies.
 pub accepted-reading : (level : ℕ) (image : List ℕ) (counts : Counts) → verdictOf level image ≡ Accepted
     → readingOf level image counts ≡ measuredOf counts
-      (identityOf (bodyIn 1 (sections image)))
-      (setOf (bodyIn 2 (sections image))) (gridOf (bodyIn 2 (sections image)))
-      (setOf (bodyIn 3 (sections image))) (gridOf (bodyIn 3 (sections image)))
-      (trimmingOf (bodyOf 4 (sections image)))
+    (identityOf (bodyIn 1 (sections image)))
+    (setOf (bodyIn 2 (sections image))) (gridOf (bodyIn 2 (sections image)))
+    (setOf (bodyIn 3 (sections image))) (gridOf (bodyIn 3 (sections image)))
+    (trimmingOf (bodyOf 4 (sections image)))
 unfolding readingOf sectionsReading
 accepted-reading level image counts e = rw e

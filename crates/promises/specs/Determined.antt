@@ -5,7 +5,6 @@ use Prim.Native.Nat.{ℕ}
 use lib.IntN.{ℤ, pos, natAbs}
 use lib.ListN.{length}
 use denote.Ref.{RefT, now, ptr}
-use Rattle.numbers.specs.Rounded.{rounded}
 use Rattle.numbers.specs.Slices.{IsPart}
 use Rattle.refusals.specs.declared.Filled.{Filled}
 use Rattle.refusals.specs.Refusals.{Outcome, answerTo, heldAfter, Fills, Settled}

@@ -7,6 +7,7 @@ pub mod Demand1
 pub mod Demand2
 pub mod Demand3
 pub mod Determined
+pub mod Demand1Examples
 pub mod Demand3Examples
 pub mod FurtherLaws
 pub mod PanelLaws

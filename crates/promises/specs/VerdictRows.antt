@@ -1,24 +1,23 @@
 -- The rows of a layout, of a verdict and of a reading.
 use mathlib.Core.Bool.{Bool, true, false, _&&_, _||_}
-use mathlib.Core.List.{List, [], _∷_}
-use mathlib.Core.Logic.{_⊎_, inl, inr, ⊎-elim}
+use mathlib.Core.List.{List, _∷_}
+use mathlib.Core.Logic.{⊎-elim}
 use mathlib.Core.Option.{Option, none, some}
-use mathlib.Core.Path.{_≡_, refl, sym, _∙_}
-use Prim.Native.Nat.{ℕ, zero, suc, _+_, _%_, _^_, _≤_, _<_}
+use mathlib.Core.Path.{_≡_, refl, sym}
+use Prim.Native.Nat.{ℕ, zero, suc, _+_, _^_, _<_}
 use native.Mathlib.Numerals.{add-one}
 use native.Mathlib.Omega.{arith}
 use borrow.Author.Tests.{leb-false, eqb-true, eqb-false}
-use lib.Dec.{leb, ltb, eqb}
+use lib.Dec.{leb, eqb}
 use lib.IntN.{ℤ, natAbs}
 use lib.ListN.{length}
 use Rattle.laws.specs.Cases.{decide, never}
-use Rattle.laws.specs.Sums.{total}
 use Rattle.numbers.specs.Fields.{numberAt}
 use Rattle.refusals.specs.declared.Verdict.{Verdict}
 use Rattle.refusals.specs.declared.Verdict.the-variants.{Accepted, Refused as NotAccepted}
 use Rattle.refusals.specs.Refusals.{ask, fieldsVerdict}
 use Rattle.refusals.specs.VerdictLaws.{asked, first-passed, next-passed}
-use Rattle.image.specs.Layout.{lineCount, linePlace, kindAt, lengthAt, sumAt, bodyAt, startVerdict, countVerdict, lineRight, linesVerdict, sumsVerdict, layoutVerdict}
+use Rattle.image.specs.Layout.{lineCount, linePlace, kindAt, lengthAt, startVerdict, countVerdict, linesVerdict, sumsVerdict, layoutVerdict}
 use Rattle.image.specs.Sections.{Section, sections}
 use Rattle.image.specs.Find.{bodyOf}
 use Rattle.bodies.specs.Identity.{identityFields}
@@ -26,15 +25,14 @@ use Rattle.bodies.specs.Set.{setFields}
 use Rattle.bodies.specs.Trim.{trimOf, trimFields, trimVerdict}
 use Rattle.bodies.specs.Note.{noteFields}
 use Rattle.reading.specs.declared.Counts.{Counts}
-use Rattle.reading.specs.declared.Answer.{Answer}
 use Rattle.reading.specs.Measured.{shownBy}
-use Rattle.panel.specs.Levels.{isLevel, knows, mayPass}
+use Rattle.panel.specs.Levels.{isLevel, knows}
 use Rattle.panel.specs.Verdict.{levelVerdict, unknownVerdict, presentVerdict, missingVerdict, kindVerdict, thereVerdict, bodyVerdict, bodiesVerdict, sectionsVerdict, verdictOf}
 use Rattle.panel.specs.Reading.{trimmingOf, sectionsReading, afterVerdict, readingOf}
 use Rattle.promises.specs.Further.{holds}
 use Rattle.promises.specs.Lower.{LowestUnknown, NoneUnknown}
 use Rattle.promises.specs.PanelLaws.{passed, sections-ascend, held-passes, unknown-none, unknown-named, none-or-lowest}
-use Rattle.promises.specs.RefusalRows.{bodyStart, kindBefore, keepsLayout, keepsSum, LayoutRow, start, count, line, end, sum, VerdictRow, level-is-none, layout, unknown, missing, identity, pressureSet, temperatureSet, trim, note, CountsRow, ReadingRow, verdict, counts}
+use Rattle.promises.specs.RefusalRows.{bodyStart, kindBefore, keepsLayout, keepsSum, LayoutRow, start, count, line, end, sum, VerdictRow, level-is-none, layout, unknown, missing, identity, pressureSet, temperatureSet, trim, note, ReadingRow, verdict, counts}
 use Rattle.promises.specs.RowsLaws.{VerdictBy, AnswerBy, ask-by, then-by, fields-by, other-rows}
 use Rattle.promises.specs.MeasuredRows.{measured-by}
 
