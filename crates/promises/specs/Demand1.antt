@@ -1,15 +1,14 @@
 -- The first demand: every call answers, a refusal says its number and detail, and it leaves nothing behind.
-use mathlib.Core.Bool.{Bool, cond}
+use mathlib.Core.Bool.{cond}
 use mathlib.Core.List.{List, _++_}
 use mathlib.Core.Logic.{_⊎_}
-use mathlib.Core.Path.{_≡_, refl, _∙_}
-use Prim.Native.Nat.{ℕ, _+_, _-_, _≤_}
+use mathlib.Core.Path.{_≡_, refl}
+use Prim.Native.Nat.{ℕ, _-_}
 use native.Mathlib.Omega.{arith}
-use lib.Dec.{leb}
-use lib.IntN.{ℤ, natAbs}
+use lib.IntN.{ℤ}
 use lib.ListN.{length, take, drop, replicate}
+use lib.Seq.{take-length}
 use Rattle.refusals.specs.declared.Refusal.{Refusal}
-use Rattle.refusals.specs.declared.Verdict.{Verdict}
 use Rattle.refusals.specs.declared.Verdict.the-variants.{Accepted, Refused as NotAccepted}
 use Rattle.refusals.specs.declared.Filled.{Filled}
 use Rattle.refusals.specs.declared.Filled.the-variants.{Length, Refused as NotFilled}
@@ -20,6 +19,10 @@ use Rattle.hextext.specs.Written.{writeImage}
 use Rattle.image.specs.Layout.{layoutVerdict}
 use Rattle.builder.specs.declared.Line.{Line}
 use Rattle.builder.specs.Build.{buildImage}
+use Rattle.bodies.specs.Identity.{identityFields, identityVerdict}
+use Rattle.bodies.specs.Set.{setFields, setVerdict}
+use Rattle.bodies.specs.Trim.{trimFields, trimVerdict}
+use Rattle.bodies.specs.Note.{noteFields, noteVerdict}
 use Rattle.bodies.specs.declared.Identity.{Identity}
 use Rattle.bodies.specs.declared.Set.{Set}
 use Rattle.reading.specs.declared.Counts.{Counts}
@@ -34,7 +37,7 @@ use Rattle.panel.specs.Reading.{readingOf}
 use Rattle.panel.specs.Load.{loadText}
 use Rattle.promises.specs.Paper.{answerNumber, answerDetail}
 use Rattle.promises.specs.RefusalRows.{TextRow, WriterRow, BuilderRow, LayoutRow, VerdictRow, MeasuredRow, ReadingRow, LoadRow}
-use Rattle.promises.specs.RowsLaws.{verdict-told, filled-told, answer-told}
+use Rattle.promises.specs.RowsLaws.{fields-told, verdict-told, filled-told, answer-told}
 use Rattle.promises.specs.OutcomeRows.{text-rows, writer-rows, builder-rows, measured-rows, load-rows}
 use Rattle.promises.specs.VerdictRows.{layout-by, verdict-rows, reading-rows}
 use Rattle.promises.specs.ZerosLaws.{part-starts, zeros-refused}
@@ -73,6 +76,20 @@ pub verdict-answers : (level : ℕ) (image : List ℕ)
     → (verdictOf level image ≡ Accepted) ⊎ VerdictRow level image (verdictNumber (verdictOf level image)) (verdictDetail (verdictOf level image))
 verdict-answers level image = verdict-told (VerdictRow level image) (verdictOf level image) (verdict-rows level image)
 
+-- A body is right, or refused by its own number with detail 0: 11 an identity, 12 or 13 a set, 15 a trim, 16 a note.
+module _ (body : List ℕ) where
+  pub identity-answers : (identityVerdict body ≡ Accepted) ⊎ (identityVerdict body ≡ NotAccepted (refusal 11 0))
+  identity-answers = fields-told 11 (identityFields body)
+
+  pub set-answers : (number : ℕ) → (setVerdict number body ≡ Accepted) ⊎ (setVerdict number body ≡ NotAccepted (refusal number 0))
+  set-answers number = fields-told number (setFields body)
+
+  pub trim-answers : (trimVerdict body ≡ Accepted) ⊎ (trimVerdict body ≡ NotAccepted (refusal 15 0))
+  trim-answers = fields-told 15 (trimFields body)
+
+  pub note-answers : (noteVerdict body ≡ Accepted) ⊎ (noteVerdict body ≡ NotAccepted (refusal 16 0))
+  note-answers = fields-told 16 (noteFields body)
+
 -- A reading is shown, or refused as the verdict is, or by 21 to 26 with a channel, an X or a set's kind.
 pub reading-answers : (level : ℕ) (image : List ℕ) (counts : Counts)
     → ((reading : Reading) × (readingOf level image counts ≡ Shown reading))
@@ -80,11 +97,11 @@ pub reading-answers : (level : ℕ) (image : List ℕ) (counts : Counts)
 reading-answers level image counts = answer-told (ReadingRow level image) (readingOf level image counts) (reading-rows level image counts)
 
 -- Counts with any bodies answer a reading, or 21 to 26, or 15 where the trim is none that a verdict passes.
-pub measured-answers : (counts : Counts) (identity : Identity) (pset : Set) (pgrid : List (List ℤ)) (tset : Set) (tgrid : List (List ℤ)) (trimming : Trimming)
-    → ((reading : Reading) × (measuredOf counts identity pset pgrid tset tgrid trimming ≡ Shown reading))
-    ⊎ MeasuredRow (answerNumber (measuredOf counts identity pset pgrid tset tgrid trimming)) (answerDetail (measuredOf counts identity pset pgrid tset tgrid trimming))
-measured-answers counts identity pset pgrid tset tgrid trimming =
-    answer-told MeasuredRow (measuredOf counts identity pset pgrid tset tgrid trimming) (measured-rows counts identity pset pgrid tset tgrid trimming)
+pub measured-answers : (counts : Counts) (identity : Identity) (pressureSet : Set) (pressureGrid : List (List ℤ)) (temperatureSet : Set) (temperatureGrid : List (List ℤ)) (trimming : Trimming)
+    → ((reading : Reading) × (measuredOf counts identity pressureSet pressureGrid temperatureSet temperatureGrid trimming ≡ Shown reading))
+    ⊎ MeasuredRow (answerNumber (measuredOf counts identity pressureSet pressureGrid temperatureSet temperatureGrid trimming)) (answerDetail (measuredOf counts identity pressureSet pressureGrid temperatureSet temperatureGrid trimming))
+measured-answers counts identity pressureSet pressureGrid temperatureSet temperatureGrid trimming =
+    answer-told MeasuredRow (measuredOf counts identity pressureSet pressureGrid temperatureSet temperatureGrid trimming) (measured-rows counts identity pressureSet pressureGrid temperatureSet temperatureGrid trimming)
 
 -- ---- a refusal leaves nothing behind
 
@@ -111,10 +128,14 @@ module _ (outcome : Outcome) (before after : List ℕ) where
       by (result x) o e h = let size : n ≡ length x = cc in (x, o, size, rw size h)
       by (refused r) o e h = let z : _≡_ {A = ℕ} 0 1 = cc in absurd (omega arith)
 
--- After a refused load no panel of any level gives a reading for any counts, not from the buffer and not from any part of it.
-pub no-reading-after : (level : ℕ) (text before after : List ℕ) (r : Refusal) → Fills (loadText level (length before) text) before (NotFilled r) after
-    → (panel start n : ℕ) (counts : Counts)
-    → readingOf panel (take n (drop start after)) counts ≡ Refused (cond (isLevel panel) (refusal 5 0) (refusal 20 0))
-no-reading-after level text before after r fills panel start n counts =
-    let zeros = refused-zeros (loadText level (length before) text) before after r fills in
-    rw zeros (zeros-refused (take n (drop start (replicate (length before) 0))) (part-starts (length before) start n) panel counts)
+  -- After a refusal no panel of any level gives a reading for any counts, not from the buffer and not from any part of it.
+  pub no-reading-after : (r : Refusal) → Fills outcome before (NotFilled r) after → (level start n : ℕ) (counts : Counts)
+      → readingOf level (take n (drop start after)) counts ≡ Refused (cond (isLevel level) (refusal 5 0) (refusal 20 0))
+  no-reading-after r fills level start n counts =
+      rw (refused-zeros r fills) (zeros-refused (take n (drop start (replicate (length before) 0))) (part-starts (length before) start n) level counts)
+
+-- So a panel whose load was refused has no reading, whatever was loaded before.
+pub no-reading-after-load : (level : ℕ) (text before after : List ℕ) (r : Refusal) → Fills (loadText level (length before) text) before (NotFilled r) after
+    → (panel : ℕ) (counts : Counts) → readingOf panel after counts ≡ Refused (cond (isLevel panel) (refusal 5 0) (refusal 20 0))
+no-reading-after-load level text before after r fills panel counts =
+    rw (take-length after) at (no-reading-after (loadText level (length before) text) before after r fills panel 0 (length after) counts)

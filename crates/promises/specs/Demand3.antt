@@ -1,5 +1,5 @@
 -- The third demand: panels in the field go on working when a later image holds more.
-use mathlib.Core.Bool.{Bool, true, false, not}
+use mathlib.Core.Bool.{true, false}
 use mathlib.Core.List.{List, [], _∷_}
 use mathlib.Core.Logic.{_↔_, _⊎_}
 use mathlib.Core.Path.{_≡_, refl, sym, ap, _∙_}
@@ -11,8 +11,8 @@ use lib.ListN.{length}
 use Rattle.laws.specs.Cases.{decide, never}
 use Rattle.refusals.specs.declared.Verdict.{Verdict}
 use Rattle.refusals.specs.declared.Verdict.the-variants.{Accepted, Refused as NotAccepted}
-use Rattle.refusals.specs.Refusals.{refusal, result, ask}
-use Rattle.image.specs.Sections.{Section, sections, bodiesOf, imageOf, Fit}
+use Rattle.refusals.specs.Refusals.{refusal, result}
+use Rattle.image.specs.Sections.{Section, sections, bodiesOf, Fit}
 use Rattle.image.specs.RoundTrip.{image-length, image-good, sections-of-image}
 use Rattle.image.specs.Back.{sections-fit}
 use Rattle.image.specs.Find.{bodyOf}
@@ -21,7 +21,6 @@ use Rattle.builder.specs.Lines.{linesOf}
 use Rattle.builder.specs.BuildLaws.{passes, lines-counted, lines-rise, lines-total, sections-again}
 use Rattle.reading.specs.declared.Counts.{Counts}
 use Rattle.reading.specs.declared.Reading.{Reading}
-use Rattle.reading.specs.declared.Answer.{Answer}
 use Rattle.reading.specs.declared.Answer.the-variants.{Shown, Refused}
 use Rattle.panel.specs.Levels.{knows, mayPass}
 use Rattle.panel.specs.Verdict.{sectionsVerdict, verdictOf}

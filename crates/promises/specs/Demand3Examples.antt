@@ -1,7 +1,7 @@
 -- For each theorem of the third demand with hypotheses, a case that meets them.
 use mathlib.Core.Bool.{Bool, true, false, _&&_}
 use mathlib.Core.List.{List, [], _∷_}
-use mathlib.Core.Path.{_≡_, refl, sym, ap, _∙_}
+use mathlib.Core.Path.{_≡_, refl, _∙_}
 use Prim.Native.Nat.{ℕ, _≤_}
 use native.Mathlib.Omega.{arith}
 use borrow.Author.Tests.{ltb-true}
@@ -14,7 +14,7 @@ use Rattle.numbers.specs.Fields.{littleEndian, numberAt, twosComplement}
 use Rattle.numbers.specs.Rounded.{rounded}
 use Rattle.refusals.specs.declared.Verdict.the-variants.{Accepted, Refused as NotAccepted}
 use Rattle.refusals.specs.Refusals.{refusal, fieldsVerdict}
-use Rattle.image.specs.Sections.{Section, sections, bodiesOf, imageOf, Fit}
+use Rattle.image.specs.Sections.{Section, bodiesOf, imageOf, Fit}
 use Rattle.image.specs.RoundTrip.{image-good, image-bytes, sections-of-image}
 use Rattle.image.specs.Find.{bodyOf}
 use Rattle.bodies.specs.Identity.{identityOf, daysIn, identityFields}

@@ -2,7 +2,7 @@
 use mathlib.Core.Bool.{Bool, true, false, cond, _||_}
 use mathlib.Core.List.{List, [], _∷_}
 use mathlib.Core.Logic.{_⊎_, inl, inr, ⊎-elim, ⊎-map}
-use mathlib.Core.Option.{Option, none, some}
+use mathlib.Core.Option.{Option, some}
 use mathlib.Core.Path.{_≡_, refl, sym, ap, _∙_}
 use Prim.Native.Nat.{ℕ, suc, _+_, _≤_, _<_}
 use native.Mathlib.Omega.{arith}
@@ -12,7 +12,7 @@ use lib.ListN.{length, length-append}
 use Rattle.laws.specs.Cases.{split, decide, never}
 use Rattle.image.specs.Layout.{linePlace}
 use Rattle.image.specs.Sections.{Section, bodiesOf, Rising, Fit}
-use Rattle.image.specs.Find.{bodyOf, isThere}
+use Rattle.image.specs.Find.{bodyOf}
 use Rattle.promises.specs.Further.{inserted, merged, holds, EachKind, EachOnce, IsKind, LowestLow}
 
 -- ---- each kind

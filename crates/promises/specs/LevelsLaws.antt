@@ -1,18 +1,17 @@
 -- Laws of a lower level over what a higher one accepts, and of levels 1 and 2.
 use mathlib.Core.Bool.{Bool, true, false, _||_}
-use mathlib.Core.List.{List, [], _∷_}
-use mathlib.Core.Path.{_≡_, refl, sym, ap, _∙_}
+use mathlib.Core.List.{List}
+use mathlib.Core.Path.{_≡_, refl, sym, _∙_}
 use Prim.Native.Nat.{ℕ}
 use native.Mathlib.Omega.{arith}
 use borrow.Author.Tests.{eqb-true, le-leb}
 use lib.Dec.{leb, eqb}
 use Rattle.laws.specs.Cases.{decide, never}
-use Rattle.refusals.specs.declared.Verdict.{Verdict}
 use Rattle.refusals.specs.declared.Verdict.the-variants.{Accepted, Refused}
 use Rattle.refusals.specs.Refusals.{refusal}
 use Rattle.refusals.specs.VerdictLaws.{first-passed, next-passed}
 use Rattle.image.specs.Sections.{Section, sections}
-use Rattle.panel.specs.Levels.{isLevel, knows, mayPass}
+use Rattle.panel.specs.Levels.{knows, mayPass}
 use Rattle.panel.specs.Verdict.{bodyVerdict, bodiesVerdict, sectionsVerdict, verdictOf}
 use Rattle.promises.specs.Lower.{Below, LowestUnknown, NoneUnknown}
 use Rattle.promises.specs.PanelLaws.{passed, unknown-none, unknown-named, sections-ascend}

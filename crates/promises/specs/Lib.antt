@@ -1,10 +1,13 @@
 pub mod Further
 pub mod Lower
-pub mod ExampleImage
 pub mod Paper
 pub mod RefusalRows
+pub mod ExampleImage
 pub mod Demand1
+pub mod Demand2
 pub mod Demand3
+pub mod Determined
+pub mod Demand1Examples
 pub mod Demand3Examples
 pub mod Starred
 pub mod FurtherLaws

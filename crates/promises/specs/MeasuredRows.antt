@@ -1,7 +1,6 @@
 -- The rows of what is worked out of counts.
 use mathlib.Core.Bool.{_&&_}
 use mathlib.Core.List.{List, [], _∷_}
-use mathlib.Core.Path.{_≡_}
 use Prim.Native.Nat.{ℕ, _+_, _≤_}
 use native.Mathlib.Omega.{arith}
 use lib.Dec.{leb, eqb}
@@ -62,12 +61,12 @@ module _ (Row : (number detail : ℕ) → Type 0) (row : (number detail : ℕ) �
 
   -- whatever trimming shows, the rows before it are those of counts
   pub measured-by : (trimming : Trimming) → ((pressure temperature : ℤ) (mark : ℕ) → AnswerBy Row (shownBy trimming pressure temperature mark))
-      → (counts : Counts) (identity : Identity) (pset : Set) (pgrid : List (List ℤ)) (tset : Set) (tgrid : List (List ℤ))
-      → AnswerBy Row (measuredOf counts identity pset pgrid tset tgrid trimming)
+      → (counts : Counts) (identity : Identity) (pressureSet : Set) (pressureGrid : List (List ℤ)) (temperatureSet : Set) (temperatureGrid : List (List ℤ))
+      → AnswerBy Row (measuredOf counts identity pressureSet pressureGrid temperatureSet temperatureGrid trimming)
   unfolding measuredOf fromPressureFrequency fromFrequencies fromPressure
-  measured-by trimming shown counts identity pset pgrid tset tgrid =
+  measured-by trimming shown counts identity pressureSet pressureGrid temperatureSet temperatureGrid =
       show-by Row (frequencyOf 1 _ _) _ (frequency-by 1 _ _ (omega arith) (omega arith))
       (λ fp. show-by Row (frequencyOf 2 _ _) _ (frequency-by 2 _ _ (omega arith) (omega arith))
-      (λ ft. show-by Row (setResult 2 1 pset pgrid fp ft) _ (set-by 2 (omega arith) (omega arith) 1 pset pgrid fp ft (omega arith) (omega arith))
-      (λ pressure. show-by Row (setResult 3 3 tset tgrid fp ft) _ (set-by 3 (omega arith) (omega arith) 3 tset tgrid fp ft (omega arith) (omega arith))
+      (λ ft. show-by Row (setResult 2 1 pressureSet pressureGrid fp ft) _ (set-by 2 (omega arith) (omega arith) 1 pressureSet pressureGrid fp ft (omega arith) (omega arith))
+      (λ pressure. show-by Row (setResult 3 3 temperatureSet temperatureGrid fp ft) _ (set-by 3 (omega arith) (omega arith) 3 temperatureSet temperatureGrid fp ft (omega arith) (omega arith))
       (λ temperature. shown pressure temperature _))))

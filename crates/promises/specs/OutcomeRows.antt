@@ -1,5 +1,5 @@
 -- The rows of a text, of the writer, of the builder, of a load and of counts with any bodies.
-use mathlib.Core.Bool.{Bool, _&&_}
+use mathlib.Core.Bool.{_&&_}
 use mathlib.Core.List.{List}
 use mathlib.Core.Path.{_≡_, refl}
 use Prim.Native.Nat.{ℕ, _^_}
@@ -7,7 +7,6 @@ use lib.Dec.{leb, eqb}
 use lib.IntN.{ℤ, natAbs}
 use lib.ListN.{length}
 use Rattle.laws.specs.Cases.{decide}
-use Rattle.refusals.specs.declared.Verdict.{Verdict}
 use Rattle.refusals.specs.Refusals.{Outcome, result, refused, ask, andThen}
 use Rattle.hextext.specs.Text.{readText}
 use Rattle.hextext.specs.Written.{textOf, textLength, writeImage}
@@ -24,7 +23,7 @@ use Rattle.reading.specs.Measured.{shownBy, measuredOf}
 use Rattle.panel.specs.Verdict.{verdictOf}
 use Rattle.panel.specs.Load.{judged, loadText}
 use Rattle.promises.specs.RefusalRows.{TextRow, fault, WriterRow, tooLarge, noTextRoom, BuilderRow, lines, lengths, noImageRoom, VerdictRow, MeasuredRow, counts, trim, LoadRow, text, image}
-use Rattle.promises.specs.RowsLaws.{VerdictBy, AnswerBy, OutcomeBy, ask-by, then-by, checked-by, other-rows}
+use Rattle.promises.specs.RowsLaws.{AnswerBy, OutcomeBy, ask-by, then-by, checked-by, other-rows}
 use Rattle.promises.specs.MeasuredRows.{measured-by}
 use Rattle.promises.specs.VerdictRows.{verdict-rows}
 
@@ -54,10 +53,10 @@ builder-rows size ls bodies =
     (λ e. then-by BuilderRow (ask whole 19 0) (ask fits 17 0) (ask-by BuilderRow whole 19 0 (λ f. lengths))
     (λ f. ask-by BuilderRow fits 17 0 (λ g. noImageRoom))))
 
-pub measured-rows : (cs : Counts) (identity : Identity) (pset : Set) (pgrid : List (List ℤ)) (tset : Set) (tgrid : List (List ℤ)) (trimming : Trimming)
-    → AnswerBy MeasuredRow (measuredOf cs identity pset pgrid tset tgrid trimming)
-measured-rows cs identity pset pgrid tset tgrid trimming =
-    measured-by MeasuredRow (λ number detail row. counts row) trimming (shown trimming) cs identity pset pgrid tset tgrid
+pub measured-rows : (cs : Counts) (identity : Identity) (pressureSet : Set) (pressureGrid : List (List ℤ)) (temperatureSet : Set) (temperatureGrid : List (List ℤ)) (trimming : Trimming)
+    → AnswerBy MeasuredRow (measuredOf cs identity pressureSet pressureGrid temperatureSet temperatureGrid trimming)
+measured-rows cs identity pressureSet pressureGrid temperatureSet temperatureGrid trimming =
+    measured-by MeasuredRow (λ number detail row. counts row) trimming (shown trimming) cs identity pressureSet pressureGrid temperatureSet temperatureGrid
   where
     shown : (t : Trimming) → (pressure temperature : ℤ) (mark : ℕ) → AnswerBy MeasuredRow (shownBy t pressure temperature mark)
     shown Untrimmed pressure temperature mark = unfold shownBy in tt

@@ -1,14 +1,13 @@
 -- Laws of verdict and reading over sections with further ones among them, at every level.
-use mathlib.Core.Bool.{Bool, true, false, cond, _||_, or-true, or-false}
+use mathlib.Core.Bool.{Bool, true, false, _||_, or-true}
 use mathlib.Core.List.{List, [], _∷_}
 use mathlib.Core.Logic.{_⊎_, inl, inr, ⊎-map}
 use mathlib.Core.Path.{_≡_, refl, sym, ap, _∙_}
 use Prim.Native.Nat.{ℕ, zero, suc, _+_, _≤_, _<_}
 use native.Mathlib.Omega.{arith}
-use borrow.Author.Tests.{eqb-true, eqb-false, eq-eqb, ne-eqb, le-leb, lt-leb, leb-true, leb-false}
+use borrow.Author.Tests.{eqb-true, eq-eqb, ne-eqb, le-leb, lt-leb, leb-false}
 use lib.Dec.{leb, ltb, eqb}
 use Rattle.laws.specs.Cases.{decide, never}
-use Rattle.refusals.specs.declared.Verdict.{Verdict}
 use Rattle.refusals.specs.declared.Verdict.the-variants.{Accepted, Refused}
 use Rattle.refusals.specs.Refusals.{refusal, ask, andThen}
 use Rattle.refusals.specs.VerdictLaws.{asked, first-passed, next-passed}
@@ -18,7 +17,7 @@ use Rattle.image.specs.Sections.{Section, sectionsFrom, sections, Rising}
 use Rattle.image.specs.Find.{bodyOf}
 use Rattle.reading.specs.declared.Counts.{Counts}
 use Rattle.panel.specs.Levels.{isLevel, knows, mayPass}
-use Rattle.panel.specs.Verdict.{levelVerdict, unknownVerdict, presentVerdict, missingVerdict, bodyVerdict, bodiesVerdict, sectionsVerdict, verdictOf}
+use Rattle.panel.specs.Verdict.{levelVerdict, unknownVerdict, missingVerdict, bodyVerdict, bodiesVerdict, sectionsVerdict, verdictOf}
 use Rattle.panel.specs.Reading.{sectionsReading}
 use Rattle.promises.specs.Further.{inserted, merged, holds, EachKind, LowestLow}
 use Rattle.promises.specs.Lower.{LowestUnknown, NoneUnknown}

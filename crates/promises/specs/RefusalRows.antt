@@ -1,9 +1,12 @@
 -- Numbers a panel may show, each with its detail, by what gives them.
-use mathlib.Core.Bool.{true, false}
+use mathlib.Core.Bool.{Bool, true, false}
 use mathlib.Core.List.{List}
 use mathlib.Core.Path.{_≡_}
-use Prim.Native.Nat.{ℕ, _≤_, _<_}
-use Rattle.image.specs.Layout.{lineCount}
+use Prim.Native.Nat.{ℕ, zero, suc, _+_, _%_, _≤_, _<_}
+use lib.Dec.{eqb}
+use lib.ListN.{length}
+use Rattle.laws.specs.Sums.{total}
+use Rattle.image.specs.Layout.{lineCount, linePlace, kindAt, lengthAt, sumAt, bodyAt, lineRight}
 use Rattle.image.specs.Sections.{sections}
 use Rattle.promises.specs.Further.{holds}
 use Rattle.promises.specs.Lower.{LowestUnknown}
@@ -23,12 +26,36 @@ pub data BuilderRow : (number detail : ℕ) → Type 0 where
   lengths : BuilderRow 19 0
   noImageRoom : BuilderRow 17 0
 
--- of an image's layout: a contents line, or the number of lines where only the end is wrong
+-- where the body of line i is to start, and the kind of the line before it
+abbrev pub bodyStart : List ℕ → ℕ → ℕ
+bodyStart image zero = linePlace (lineCount image)
+bodyStart image (suc i) = bodyStart image i + lengthAt image i
+
+abbrev pub kindBefore : List ℕ → ℕ → ℕ
+kindBefore image zero = 0
+kindBefore image (suc i) = kindAt image i
+
+abbrev pub keepsLayout : List ℕ → ℕ → Bool
+keepsLayout image i = lineRight image i (kindBefore image i) (bodyStart image i)
+
+abbrev pub keepsSum : List ℕ → ℕ → Bool
+keepsSum image i = eqb (total (bodyAt image i) % 65536) (sumAt image i)
+
+-- i is the first of the contents lines that fails a test
+pub record FirstLine (test : ℕ → Bool) (lines i : ℕ) : Type 0 where
+  pub is-line : i < lines
+  pub fails : test i ≡ false
+  pub before : (j : ℕ) → j < i → test j ≡ true
+
+-- of an image's layout: the first line that breaks it, or the number of lines where only the end is wrong, or the first line whose
+-- body has another sum
 pub data LayoutRow (image : List ℕ) : (number detail : ℕ) → Type 0 where
   start : LayoutRow image 5 0
   count : LayoutRow image 6 0
-  line : {i : ℕ} → i ≤ lineCount image → LayoutRow image 7 i
-  sum : {i : ℕ} → i < lineCount image → LayoutRow image 8 i
+  line : {i : ℕ} → FirstLine (keepsLayout image) (lineCount image) i → LayoutRow image 7 i
+  end : ((j : ℕ) → j < lineCount image → keepsLayout image j ≡ true) → (bodyStart image (lineCount image) ≡ length image → ⊥)
+      → LayoutRow image 7 (lineCount image)
+  sum : {i : ℕ} → FirstLine (keepsSum image) (lineCount image) i → LayoutRow image 8 i
 
 -- of a panel on an image: an unknown kind or a missing one is the lowest
 pub data VerdictRow (level : ℕ) (image : List ℕ) : (number detail : ℕ) → Type 0 where

@@ -11,7 +11,7 @@ use Rattle.refusals.specs.declared.Verdict.the-variants.{Accepted, Refused as N
 use Rattle.refusals.specs.declared.Filled.{Filled}
 use Rattle.refusals.specs.declared.Filled.the-variants.{Length}
 use Rattle.refusals.specs.Paper.{verdictNumber, verdictDetail, filledNumber, filledDetail, filledLength}
-use Rattle.refusals.specs.Refusals.{Outcome, result, refused, checked, ask, andThen, fieldsVerdict, Fills}
+use Rattle.refusals.specs.Refusals.{Outcome, result, refused, checked, refusal, ask, andThen, fieldsVerdict, Fills}
 use Rattle.reading.specs.declared.value.Value.{Value}
 use Rattle.reading.specs.declared.value.Value.the-variants.{Known, Refused as NotKnown}
 use Rattle.reading.specs.declared.Reading.{Reading}
@@ -96,3 +96,10 @@ pub other-rows : (Row Other : (number detail : ℕ) → Type 0) → ((number det
     → VerdictBy Row v → VerdictBy Other v
 other-rows Row Other f Accepted by = tt
 other-rows Row Other f (NotAccepted r) by = f (r .number) (r .detail) by
+
+-- a body's fields are right, or it is refused by its number
+pub fields-told : (number : ℕ) (fields : List Bool) → (fieldsVerdict number fields ≡ Accepted) ⊎ (fieldsVerdict number fields ≡ NotAccepted (refusal number 0))
+unfolding fieldsVerdict
+fields-told number [] = inl refl
+fields-told number (true ∷ fields) = fields-told number fields
+fields-told number (false ∷ fields) = inr refl

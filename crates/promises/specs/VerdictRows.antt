@@ -1,24 +1,23 @@
 -- The rows of a layout, of a verdict and of a reading.
 use mathlib.Core.Bool.{Bool, true, false, _&&_, _||_}
-use mathlib.Core.List.{List, [], _∷_}
-use mathlib.Core.Logic.{_⊎_, inl, inr, ⊎-elim}
+use mathlib.Core.List.{List, _∷_}
+use mathlib.Core.Logic.{⊎-elim}
 use mathlib.Core.Option.{Option, none, some}
-use mathlib.Core.Path.{_≡_, refl, sym, _∙_}
-use Prim.Native.Nat.{ℕ, zero, suc, _+_, _%_, _^_, _≤_, _<_}
-use native.Mathlib.Nat.{zero-add}
+use mathlib.Core.Path.{_≡_, refl, sym}
+use Prim.Native.Nat.{ℕ, zero, suc, _+_, _^_, _<_}
+use native.Mathlib.Numerals.{add-one}
 use native.Mathlib.Omega.{arith}
 use borrow.Author.Tests.{leb-false, eqb-true, eqb-false}
-use lib.Dec.{leb, ltb, eqb}
+use lib.Dec.{leb, eqb}
 use lib.IntN.{ℤ, natAbs}
 use lib.ListN.{length}
 use Rattle.laws.specs.Cases.{decide, never}
-use Rattle.laws.specs.Sums.{total}
 use Rattle.numbers.specs.Fields.{numberAt}
 use Rattle.refusals.specs.declared.Verdict.{Verdict}
 use Rattle.refusals.specs.declared.Verdict.the-variants.{Accepted, Refused as NotAccepted}
 use Rattle.refusals.specs.Refusals.{ask, fieldsVerdict}
 use Rattle.refusals.specs.VerdictLaws.{asked, first-passed, next-passed}
-use Rattle.image.specs.Layout.{lineCount, linePlace, kindAt, lengthAt, sumAt, bodyAt, startVerdict, countVerdict, lineRight, linesVerdict, sumsVerdict, layoutVerdict}
+use Rattle.image.specs.Layout.{lineCount, linePlace, kindAt, lengthAt, startVerdict, countVerdict, linesVerdict, sumsVerdict, layoutVerdict}
 use Rattle.image.specs.Sections.{Section, sections}
 use Rattle.image.specs.Find.{bodyOf}
 use Rattle.bodies.specs.Identity.{identityFields}
@@ -26,37 +25,47 @@ use Rattle.bodies.specs.Set.{setFields}
 use Rattle.bodies.specs.Trim.{trimOf, trimFields, trimVerdict}
 use Rattle.bodies.specs.Note.{noteFields}
 use Rattle.reading.specs.declared.Counts.{Counts}
-use Rattle.reading.specs.declared.Answer.{Answer}
 use Rattle.reading.specs.Measured.{shownBy}
-use Rattle.panel.specs.Levels.{isLevel, knows, mayPass}
+use Rattle.panel.specs.Levels.{isLevel, knows}
 use Rattle.panel.specs.Verdict.{levelVerdict, unknownVerdict, presentVerdict, missingVerdict, kindVerdict, thereVerdict, bodyVerdict, bodiesVerdict, sectionsVerdict, verdictOf}
 use Rattle.panel.specs.Reading.{trimmingOf, sectionsReading, afterVerdict, readingOf}
 use Rattle.promises.specs.Further.{holds}
 use Rattle.promises.specs.Lower.{LowestUnknown, NoneUnknown}
 use Rattle.promises.specs.PanelLaws.{passed, sections-ascend, held-passes, unknown-none, unknown-named, none-or-lowest}
-use Rattle.promises.specs.RefusalRows.{LayoutRow, start, count, line, sum, VerdictRow, level-is-none, layout, unknown, missing, identity, pressureSet, temperatureSet, trim, note, CountsRow, ReadingRow, verdict, counts}
+use Rattle.promises.specs.RefusalRows.{bodyStart, kindBefore, keepsLayout, keepsSum, LayoutRow, start, count, line, end, sum, VerdictRow, level-is-none, layout, unknown, missing, identity, pressureSet, temperatureSet, trim, note, ReadingRow, verdict, counts}
 use Rattle.promises.specs.RowsLaws.{VerdictBy, AnswerBy, ask-by, then-by, fields-by, other-rows}
 use Rattle.promises.specs.MeasuredRows.{measured-by}
 
 -- ---- the layout
 
-module _ (image : List ℕ) where
-  lines-by : (left i previous offset : ℕ) → i + left ≤ lineCount image → VerdictBy (LayoutRow image) (linesVerdict image left i previous offset)
-  unfolding linesVerdict
-  lines-by zero i previous offset h = ask-by (LayoutRow image) (eqb offset (length image)) 7 i (λ e. line (omega arith))
-  lines-by (suc left) i previous offset h =
-      then-by (LayoutRow image) (ask (lineRight image i previous offset) 7 i) (linesVerdict image left (i + 1) (kindAt image i) (offset + lengthAt image i))
-      (ask-by (LayoutRow image) (lineRight image i previous offset) 7 i (λ e. line (omega arith)))
-      (λ e. lines-by left (i + 1) (kindAt image i) (offset + lengthAt image i) (omega arith))
+-- one line more has passed a test
+before-next : (test : ℕ → Bool) (i : ℕ) → test i ≡ true → ((j : ℕ) → j < i → test j ≡ true) → (j : ℕ) → j < suc i → test j ≡ true
+before-next test i here before j h =
+    decide (eqb j i)
+    (λ (e : eqb j i ≡ true). rw (eqb-true j i e) here)
+    (λ (e : eqb j i ≡ false). let other = eqb-false j i e in before j (omega arith))
 
-  sums-by : (left i : ℕ) → i + left ≤ lineCount image → VerdictBy (LayoutRow image) (sumsVerdict image left i)
+module _ (image : List ℕ) where
+  lines-by : (left i : ℕ) → i + left ≡ lineCount image → ((j : ℕ) → j < i → keepsLayout image j ≡ true)
+      → VerdictBy (LayoutRow image) (linesVerdict image left i (kindBefore image i) (bodyStart image i))
+  unfolding linesVerdict
+  lines-by zero i h before =
+      let last : i ≡ lineCount image = omega arith in
+      rw last
+      (ask-by (LayoutRow image) (eqb (bodyStart image (lineCount image)) (length image)) 7 (lineCount image)
+      (λ e. end (rw last at before) (eqb-false (bodyStart image (lineCount image)) (length image) e)))
+  lines-by (suc left) i h before =
+      then-by (LayoutRow image) (ask (keepsLayout image i) 7 i) (linesVerdict image left (i + 1) (kindAt image i) (bodyStart image i + lengthAt image i))
+      (ask-by (LayoutRow image) (keepsLayout image i) 7 i (λ e. line (record { is-line = omega arith; fails = e; before = before })))
+      (λ e. rw (add-one i) (lines-by left (suc i) (omega arith) (before-next (keepsLayout image) i (asked (keepsLayout image i) 7 i e) before)))
+
+  sums-by : (left i : ℕ) → i + left ≡ lineCount image → ((j : ℕ) → j < i → keepsSum image j ≡ true) → VerdictBy (LayoutRow image) (sumsVerdict image left i)
   unfolding sumsVerdict
-  sums-by zero i h = tt
-  sums-by (suc left) i h =
-      let right = eqb (total (bodyAt image i) % 65536) (sumAt image i) in
-      then-by (LayoutRow image) (ask right 8 i) (sumsVerdict image left (i + 1))
-      (ask-by (LayoutRow image) right 8 i (λ e. sum (omega arith)))
-      (λ e. sums-by left (i + 1) (omega arith))
+  sums-by zero i h before = tt
+  sums-by (suc left) i h before =
+      then-by (LayoutRow image) (ask (keepsSum image i) 8 i) (sumsVerdict image left (i + 1))
+      (ask-by (LayoutRow image) (keepsSum image i) 8 i (λ e. sum (record { is-line = omega arith; fails = e; before = before })))
+      (λ e. rw (add-one i) (sums-by left (suc i) (omega arith) (before-next (keepsSum image) i (asked (keepsSum image i) 8 i e) before)))
 
   pub layout-by : VerdictBy (LayoutRow image) (layoutVerdict image)
   unfolding layoutVerdict startVerdict countVerdict
@@ -66,8 +75,8 @@ module _ (image : List ℕ) where
       then-by (LayoutRow image) (startVerdict image) _ (ask-by (LayoutRow image) started 5 0 (λ e. start))
       (λ e. then-by (LayoutRow image) (countVerdict image) _ (ask-by (LayoutRow image) counted 6 0 (λ f. count))
       (λ f. then-by (LayoutRow image) (linesVerdict image (lineCount image) 0 0 (linePlace (lineCount image))) (sumsVerdict image (lineCount image) 0)
-      (lines-by (lineCount image) 0 0 (linePlace (lineCount image)) (omega arith))
-      (λ g. sums-by (lineCount image) 0 (omega arith))))
+      (lines-by (lineCount image) 0 (omega arith) (λ j h. absurd (omega arith)))
+      (λ g. sums-by (lineCount image) 0 (omega arith) (λ j h. absurd (omega arith)))))
 
 -- ---- the verdict
 

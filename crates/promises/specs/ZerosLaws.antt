@@ -1,9 +1,9 @@
 -- Laws of a buffer of zeros: nothing can be read from any part of it.
-use mathlib.Core.Bool.{Bool, true, false, cond, _&&_, and-false}
+use mathlib.Core.Bool.{cond, _&&_, and-false}
 use mathlib.Core.List.{List, [], _∷_}
 use mathlib.Core.Path.{_≡_, refl, _∙_}
 use Prim.Native.Nat.{ℕ, zero, suc, _+_}
-use lib.Dec.{leb, eqb}
+use lib.Dec.{leb}
 use lib.ListN.{length, take, drop, getD, replicate}
 use lib.Seq.{getD-drop}
 use Rattle.laws.specs.Cases.{decide}
