@@ -29,9 +29,13 @@ use Rattle.builder.specs.Built.{Built, built-exactly, built-found, built-found-
 use Rattle.bodies.specs.Identity.{identityOf}
 use Rattle.bodies.specs.Set.{setOf, gridOf}
 use Rattle.reading.specs.declared.Counts.{Counts}
+use Rattle.reading.specs.declared.Reading.{Reading}
+use Rattle.reading.specs.declared.Answer.the-variants.{Shown}
 use Rattle.reading.specs.Measured.{measuredOf}
 use Rattle.panel.specs.Verdict.{verdictOf}
 use Rattle.panel.specs.Reading.{bodyIn, trimmingOf, sectionsReading, readingOf}
+use Rattle.promises.specs.Manual.{ReadByManual}
+use Rattle.promises.specs.ManualLaws.{sections-by-manual, shown-after}
 
 -- ---- texts
 
@@ -106,3 +110,10 @@ pub accepted-reading : (level : ℕ) (image : List ℕ) (counts : Counts) → ve
     (trimmingOf (bodyOf 4 (sections image)))
 unfolding readingOf sectionsReading
 accepted-reading level image counts e = rw e
+
+-- What a panel shows is the nested polynomial of the maker's manual, of the coefficients in the image at the counts' frequencies, rounded at the places that document 01 names.
+pub reading-by-manual : (level : ℕ) (image : List ℕ) (counts : Counts) (reading : Reading) → readingOf level image counts ≡ Shown reading
+    → ReadByManual image counts reading
+unfolding readingOf
+reading-by-manual level image counts reading e =
+    sections-by-manual image counts reading (shown-after (verdictOf level image) (sectionsReading (sections image) counts) reading e)

@@ -43,7 +43,7 @@ computed-bytes : (l : List ℕ) → areBytes l ≡ true → Bytes l
 computed-bytes [] e = bytes-nil
 computed-bytes (b ∷ l) e = bytes-cons b l (ltb-true b 256 (both-left (ltb b 256) (areBytes l) e)) (computed-bytes l (both-right (ltb b 256) (areBytes l) e))
 
-three-fit : Fit threeSections
+pub three-fit : Fit threeSections
 unfolding bodiesOf
 three-fit = record { some = omega arith; few = omega arith; rising = (omega arith, omega arith, (omega arith, omega arith, (omega arith, omega arith, tt))); room = omega arith }
 
@@ -70,12 +70,12 @@ four-right : sectionsVerdict 2 fourSections ≡ Accepted
 unfolding littleEndian numberAt twosComplement fieldsVerdict bodyOf daysIn identityFields coefficientFields setFields trimFields knows unknownVerdict missingVerdict kindVerdict bodyVerdict bodiesVerdict sectionsVerdict
 four-right = refl
 
-three-accepted : verdictOf 2 exampleImage ≡ Accepted
+pub three-accepted : verdictOf 2 exampleImage ≡ Accepted
 three-accepted = accepted 2 threeSections refl three-fit three-right
 
 -- ---- further sections
 
-three-bytes : Bytes exampleImage
+pub three-bytes : Bytes exampleImage
 three-bytes = image-bytes threeSections three-fit (computed-bytes (bodiesOf threeSections) (unfold bodiesOf in refl))
 
 -- sections whose kinds can be laid out with it

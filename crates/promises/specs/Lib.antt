@@ -3,12 +3,14 @@ pub mod Lower
 pub mod Paper
 pub mod RefusalRows
 pub mod ExampleImage
+pub mod Manual
 pub mod Demand1
 pub mod Demand2
 pub mod Demand3
 pub mod Determined
 pub mod Demand1Examples
 pub mod Demand3Examples
+pub mod Demand2Examples
 pub mod Starred
 pub mod FurtherLaws
 pub mod PanelLaws
@@ -18,3 +20,4 @@ pub mod MeasuredRows
 pub mod VerdictRows
 pub mod OutcomeRows
 pub mod ZerosLaws
+pub mod ManualLaws
