@@ -10,12 +10,20 @@ use Rattle.refusals.specs.declared.Filled.{Filled}
 use Rattle.refusals.specs.Refusals.{Outcome, answerTo, heldAfter, Fills, Settled}
 use Rattle.image.specs.Find.{Found}
 
--- A lent buffer: the answer and what the buffer holds, of
+-- The one law: a contract is an equation with a definition. By it alone, every public function that is not named below:
+-- layout::layout; finder::stated, place_of, has; bodies::identity_verdict, read_identity, set_verdict, read_set, read_grid,
+-- trim_verdict, read_trim, note_verdict; reading::measured; panel::verdict, panel::reading; numbers::fields::number1, number2, number4,
+-- number8, signed4, signed8; numbers::slices::byte_sum, clear_from (of the buffer); numbers::whole::magnitude;
+-- numbers::rounding::rounded_over_2_24, rounded_over_2_28, rounded_over_2_32.
+pub determined : {A : Type 0} (r r′ said : A) → r ≡ said → r′ ≡ said → r ≡ r′
+determined r r′ said e f = e ∙ sym f
+
+-- Of a lent buffer, the answer and what the buffer holds:
 -- hexread::read, hexwrite::write, builder::build_table, builder::build, panel::load.
 module _ (outcome : Outcome) (before : List ℕ) where
   pub fills-determined : (answer answer′ : Filled) (after after′ : List ℕ) → Fills outcome before answer after → Fills outcome before answer′ after′
       → (answer ≡ answer′) × (after ≡ after′)
-  fills-determined answer answer′ after after′ f g = (f .answers ∙ sym (g .answers), f .holds ∙ sym (g .holds))
+  fills-determined answer answer′ after after′ f g = (determined answer answer′ (answerTo outcome) (f .answers) (g .answers), determined after after′ (heldAfter (length before) outcome) (f .holds) (g .holds))
 
   pub fills-allowed : Fills outcome before (answerTo outcome) (heldAfter (length before) outcome)
   fills-allowed = record { answers = refl; holds = refl }
@@ -23,27 +31,19 @@ module _ (outcome : Outcome) (before : List ℕ) where
 -- And of refusals::settled.
 pub settled-determined : (answer passed passed′ : Filled) (before after after′ : List ℕ) → Settled answer before passed after → Settled answer before passed′ after′
     → (passed ≡ passed′) × (after ≡ after′)
-settled-determined answer passed passed′ before after after′ f g = (f .same ∙ sym (g .same), f .cleared ∙ sym (g .cleared))
+settled-determined answer passed passed′ before after after′ f g = (determined passed passed′ _ (f .same) (g .same), determined after after′ _ (f .cleared) (g .cleared))
 
 -- A part of the caller's memory: its bytes, its block and its place in it, of
 -- finder::find
 pub found-determined : (image r r′ : RefT (List ℕ)) (kind : ℕ) → Found image r kind → Found image r′ kind
     → (now r ≡ now r′) × (ptr r .0 ≡ ptr r′ .0) × (ptr r .1 ≡ ptr r′ .1)
-found-determined image r r′ kind f g = (f .holds ∙ sym (g .holds), f .block ∙ sym (g .block), f .place ∙ sym (g .place))
+found-determined image r r′ kind f g = (determined _ _ _ (f .holds) (g .holds), determined _ _ _ (f .block) (g .block), determined _ _ _ (f .place) (g .place))
 
 -- and of numbers::slices::part and finder::part_at.
 pub part-determined : (s r r′ : RefT (List ℕ)) (start count : ℕ) → IsPart s r start count → IsPart s r′ start count
     → (now r ≡ now r′) × (ptr r .0 ≡ ptr r′ .0) × (ptr r .1 ≡ ptr r′ .1)
-part-determined s r r′ start count f g = (f .holds ∙ sym (g .holds), f .block ∙ sym (g .block), f .place ∙ sym (g .place))
-
--- An equation with a definition: every other public function,
--- layout::layout; finder::stated, place_of, has; bodies::identity_verdict, read_identity, set_verdict, read_set, read_grid,
--- trim_verdict, read_trim, note_verdict; reading::measured; panel::verdict, panel::reading; numbers::fields::number1, number2, number4,
--- number8, signed4, signed8; numbers::slices::byte_sum, clear_from (of the buffer); numbers::whole::magnitude;
--- numbers::rounding::rounded_over_2_24, rounded_over_2_28, rounded_over_2_32.
-pub equation-determined : {A : Type 0} (r r′ said : A) → r ≡ said → r′ ≡ said → r ≡ r′
-equation-determined r r′ said e f = e ∙ sym f
+part-determined s r r′ start count f g = (determined _ _ _ (f .holds) (g .holds), determined _ _ _ (f .block) (g .block), determined _ _ _ (f .place) (g .place))
 
 -- One says so of its number as a whole one: numbers::rounding::rounded_quotient.
 pub whole-determined : (r r′ : ℕ) (said : ℤ) → pos r ≡ said → pos r′ ≡ said → r ≡ r′
-whole-determined r r′ said e f = ap natAbs (e ∙ sym f)
+whole-determined r r′ said e f = ap natAbs (determined (pos r) (pos r′) said e f)
