@@ -62,8 +62,7 @@ returns-3 c =
     let p = c .before .before in
     let a = p .before .before .before in
     let rounding = rw (operands p, toZ-ofZ (room p)) at (c .before .rounded-over-2-32 .ensures) in
-    let read = rw (toZ-ofZ (record { sfits = c .before .rounded-over-2-32 .ok })) at (c .limited .ensures) in
-    read ∙ ap (within (2 ^ 24) 24 (a .args .detail)) rounding
+    rw (toZ-ofZ (record { sfits = c .before .rounded-over-2-32 .ok }), rounding) at (c .limited .ensures)
 
 pub scaled-spec : {M : Type 1} → statement M
 scaled-spec =

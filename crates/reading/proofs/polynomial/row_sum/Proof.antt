@@ -21,9 +21,7 @@ abbrev μ-loop : tie.MeasureT-loop
 μ-loop kind x row sum₀ i₀ sum i = i
 
 loop-holds : tie.Need-loop-holds Inv-loop μ-loop
-loop-holds c =
-    let l : length (c .args .t3) ≤ 5 = omega arith in
-    (omega arith, row-end _ _ (c .args .t3) 5 l, omega arith)
+loop-holds c = let l : length (c .args .t3) ≤ 5 = omega arith in search (needs, row-end)
 
 sub-i : tie.Need-sub-i Inv-loop μ-loop
 sub-i c = search needs
