@@ -1,11 +1,7 @@
-use Rattle.panel.specs.LoadLaws.{keeps-accepted, keeps-refused, text-refused, image-judged}
 use borrow.Author.Needs.{needs}
+use Rattle.panel.specs.LoadLaws.{text-refused, image-judged}
 use Rattle.panel.proofs.loads.load.Statement.{statement}
 use Rattle.panel.proofs.loads.load.Tie as tie
-use Rattle.panel.proofs.loads.load.Reads as reads
-use Rattle.panel.proofs.loads.load.Lts as lts
-use Rattle.hexread.proofs.read.Reads as read-reads
-use Rattle.panel.proofs.loads.keep_accepted.Reads as keep-accepted-reads
 
 read-requires : tie.Need-read-requires
 read-requires c κs = search needs
@@ -23,13 +19,13 @@ same-length : tie.Need-same-length
 same-length c = search needs
 
 returns : tie.Need-returns
-returns c = search (needs, text-refused, image-judged)
+returns c = search (needs, image-judged)
 
 same-length-2 : tie.Need-same-length-2
 same-length-2 c = search needs
 
 returns-2 : tie.Need-returns-2
-returns-2 c = search (needs, text-refused, image-judged)
+returns-2 c = search (needs, text-refused)
 
 pub load-spec : {M : Type 1} → statement M
 load-spec =

@@ -1,3 +1,4 @@
+-- `grid_sum` meets its contract: a turn takes the sum of the rows from one row earlier on.
 use mathlib.Core.Path.{_≡_, sym, _∙_}
 use Prim.Native.Nat.{suc, _-_, _<_, _≤_}
 use native.Mathlib.Omega.{arith}
