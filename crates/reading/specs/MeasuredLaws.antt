@@ -1,12 +1,12 @@
 -- Both ways on from a value to an answer, laws of mark and trim, and the bound of a set's result.
 use mathlib.Core.Path.{_≡_}
-use mathlib.Core.Bool.{Bool, cond}
+use mathlib.Core.Bool.{Bool, true, false, cond}
 use mathlib.Core.List.{List}
 use Prim.Native.Nat.{ℕ, _+_, _*_, _^_, _≤_}
 use native.Mathlib.Omega.{arith}
 use lib.Dec.{lit<, lit≤}
 use lib.IntN.{ℤ, pos, natAbs, _+ℤ_, _*ℤ_}
-use lib.Signed.{natAbs-le}
+use lib.Signed.{ltZ, natAbs-le}
 use mir.Syntax.{w32, w64}
 use mir.Val.{SFits}
 use Rattle.laws.specs.Magnitude.{magnitude-product-le, magnitude-sum}
@@ -38,6 +38,16 @@ units-fit z f =
     let b : natAbs z ≤ 2 ^ 31 = natAbs-le z (f .sfits) in
     let l : 65536 ≤ 65536 = lit≤ tt in
     fits-64 (omega (arith, magnitude-product-le z (pos 65536) b l))
+
+-- both ends, as code asks after them
+module _ (z low high : ℤ) where
+  pub outside-below : ltZ z (low *ℤ pos 65536) ≡ true → true ≡ outside z low high
+  unfolding outside
+  outside-below e = rw e
+
+  pub outside-above : ltZ z (low *ℤ pos 65536) ≡ false → ltZ (high *ℤ pos 65536) z ≡ outside z low high
+  unfolding outside
+  outside-above e = rw e
 
 -- the mark by its two tests
 module _ (identity : Identity) (pressure temperature : ℤ) where
