@@ -1,33 +1,53 @@
--- Laws of mark and trim, and the bound of a set's result.
+-- Both ways on from a value to an answer, laws of mark and trim, and the bound of a set's result.
 use mathlib.Core.Path.{_≡_}
-use mathlib.Core.Bool.{Bool, cond}
+use mathlib.Core.Bool.{Bool, true, false, cond}
 use mathlib.Core.List.{List}
-use Prim.Native.Nat.{ℕ, _+_, _*_, _^_, _≤_, _<_}
+use Prim.Native.Nat.{ℕ, _+_, _*_, _^_, _≤_}
 use native.Mathlib.Omega.{arith}
 use lib.Dec.{lit<, lit≤}
 use lib.IntN.{ℤ, pos, natAbs, _+ℤ_, _*ℤ_}
-use lib.Signed.{natAbs-le}
+use lib.Signed.{ltZ, natAbs-le}
 use mir.Syntax.{w32, w64}
 use mir.Val.{SFits}
 use Rattle.laws.specs.Magnitude.{magnitude-product-le, magnitude-sum}
 use Rattle.laws.specs.Pattern.{fits-64}
 use Rattle.numbers.specs.Rounded.{rounded}
 use Rattle.numbers.specs.RoundedLaws.{rounded-high}
+use Rattle.refusals.specs.declared.Refusal.{Refusal}
 use Rattle.bodies.specs.declared.Identity.{Identity}
 use Rattle.bodies.specs.declared.Set.{Set}
+use Rattle.reading.specs.declared.Answer.{Answer}
+use Rattle.reading.specs.declared.Answer.the-variants.{Refused as NotShown}
 use Rattle.reading.specs.declared.value.Value.{Value}
 use Rattle.reading.specs.declared.value.Value.the-variants.{Known, Refused}
 use Rattle.reading.specs.Value.{withValue}
 use Rattle.reading.specs.ValueLaws.{within-says}
 use Rattle.reading.specs.Frequency.{prescaledOf}
 use Rattle.reading.specs.Polynomial.{gridSum, gridResult, resultFromXp, setResult}
-use Rattle.reading.specs.Measured.{outside, markOf}
+use Rattle.reading.specs.Measured.{outside, markOf, andShow}
+
+module _ {v w : Value} (next : ℤ → Answer) (is : v ≡ w) where
+  pub answer-known : {z : ℤ} → v ≡ Known z → next z ≡ andShow w next
+  answer-known e = rw (← is, e)
+
+  pub answer-refused : {r : Refusal} → v ≡ Refused r → NotShown r ≡ andShow w next
+  answer-refused e = rw (← is, e)
 
 pub units-fit : (z : ℤ) → SFits w32 z → SFits w64 (z *ℤ pos 65536)
 units-fit z f =
     let b : natAbs z ≤ 2 ^ 31 = natAbs-le z (f .sfits) in
     let l : 65536 ≤ 65536 = lit≤ tt in
     fits-64 (omega (arith, magnitude-product-le z (pos 65536) b l))
+
+-- both ends, as code asks after them
+module _ (z low high : ℤ) where
+  pub outside-below : ltZ z (low *ℤ pos 65536) ≡ true → true ≡ outside z low high
+  unfolding outside
+  outside-below e = rw e
+
+  pub outside-above : ltZ z (low *ℤ pos 65536) ≡ false → ltZ (high *ℤ pos 65536) z ≡ outside z low high
+  unfolding outside
+  outside-above e = rw e
 
 -- the mark by its two tests
 module _ (identity : Identity) (pressure temperature : ℤ) where

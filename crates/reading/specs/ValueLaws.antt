@@ -1,4 +1,4 @@
--- What a known value says of the checks before it, and both answers of `within`.
+-- What a known value says of the checks before it, both ways on from a value, and both answers of `within`.
 use mathlib.Core.Path.{_≡_, refl}
 use mathlib.Core.Bool.{Bool, true, false}
 use Prim.Native.Nat.{ℕ, _≤_, _<_}
@@ -7,12 +7,13 @@ use borrow.Author.Tests.{le-leb, lt-leb, leb-true}
 use lib.Dec.{leb}
 use lib.IntN.{ℤ, natAbs}
 use Rattle.laws.specs.Cases.{decide}
+use Rattle.refusals.specs.declared.Refusal.{Refusal}
 use Rattle.refusals.specs.declared.Verdict.{Verdict}
 use Rattle.refusals.specs.declared.Verdict.the-variants.{Accepted, Refused as NotAccepted}
 use Rattle.refusals.specs.Refusals.{refusal, ask}
 use Rattle.reading.specs.declared.value.Value.{Value}
 use Rattle.reading.specs.declared.value.Value.the-variants.{Known, Refused}
-use Rattle.reading.specs.Value.{given, within}
+use Rattle.reading.specs.Value.{given, withValue, within}
 
 -- a value that is known has passed the check before it
 pub given-known : (v : Verdict) (w : Value) (z : ℤ) → given v w ≡ Known z → w ≡ Known z
@@ -22,6 +23,14 @@ given-known (NotAccepted r) w z e = let n : _≡_ {A = ℕ} 0 1 = cc in absurd (
 pub given-passed : (b : Bool) (number detail : ℕ) (w : Value) (z : ℤ) → given (ask b number detail) w ≡ Known z → b ≡ true
 given-passed true number detail w z e = refl
 given-passed false number detail w z e = let n : _≡_ {A = ℕ} 0 1 = cc in absurd (omega arith)
+
+-- how code that works a value out, and stops where there is none, comes to both
+module _ {v w : Value} (next : ℤ → Value) (is : v ≡ w) where
+  pub value-known : {z : ℤ} → v ≡ Known z → next z ≡ withValue w next
+  value-known e = rw (← is, e)
+
+  pub value-refused : {r : Refusal} → v ≡ Refused r → Refused r ≡ withValue w next
+  value-refused e = rw (← is, e)
 
 module _ (most number detail : ℕ) (z : ℤ) where
   pub within-known : natAbs z ≤ most → Known z ≡ within most number detail z

@@ -22,13 +22,13 @@ same-length : tie.Need-same-length
 same-length c = search needs
 
 returns : tie.Need-returns
-returns c = search (needs, keeps-accepted, keeps-refused)
+returns c = search (needs, keeps-accepted)
 
 same-length-2 : tie.Need-same-length-2
 same-length-2 c = search needs
 
 returns-2 : tie.Need-returns-2
-returns-2 c = search (needs, keeps-accepted, keeps-refused)
+returns-2 c = search (needs, keeps-refused)
 
 pub keep-accepted-spec : {M : Type 1} → statement M
 keep-accepted-spec =

@@ -19,13 +19,13 @@ same-length : tie.Need-same-length
 same-length c = search needs
 
 returns : tie.Need-returns
-returns c = search (needs, text-refused, image-judged)
+returns c = search (needs, image-judged)
 
 same-length-2 : tie.Need-same-length-2
 same-length-2 c = search needs
 
 returns-2 : tie.Need-returns-2
-returns-2 c = search (needs, text-refused, image-judged)
+returns-2 c = search (needs, text-refused)
 
 pub load-spec : {M : Type 1} → statement M
 load-spec =

@@ -16,10 +16,10 @@ enum-known-judged : tie.Need-enum-known-judged
 enum-known-judged c = search needs
 
 returns : tie.Need-returns
-returns c = search (needs, reading-taken, reading-refused)
+returns c = search (needs, reading-taken)
 
 returns-2 : tie.Need-returns-2
-returns-2 c = search (needs, reading-taken, reading-refused)
+returns-2 c = search (needs, reading-refused)
 
 pub reading-spec : {M : Type 1} → statement M
 reading-spec =

@@ -19,10 +19,10 @@ enum-told-2 : tie.Need-enum-told-2
 enum-told-2 c = search needs
 
 returns : tie.Need-returns
-returns c = search (needs, trimmed-by, untrimmed)
+returns c = search (needs, trimmed-by)
 
 returns-2 : tie.Need-returns-2
-returns-2 c = search (needs, trimmed-by, untrimmed)
+returns-2 c = search (needs, untrimmed)
 
 pub trimming-spec : {M : Type 1} → statement M
 trimming-spec =

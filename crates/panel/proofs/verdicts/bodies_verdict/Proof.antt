@@ -15,7 +15,7 @@ enum-told-2 c = search needs
 
 returns : tie.Need-returns
 unfolding bodiesVerdict
-returns c = search (needs, stops-there, goes-on)
+returns c = search (needs, stops-there)
 
 body-verdict-requires-2 : tie.Need-body-verdict-requires-2
 body-verdict-requires-2 c κs = search needs
@@ -61,7 +61,7 @@ body-verdict-requires-5 c κs = search needs
 
 returns-5 : tie.Need-returns-5
 unfolding bodiesVerdict
-returns-5 c = search (needs, stops-there, goes-on)
+returns-5 c = search (needs, goes-on)
 
 pub bodies-verdict-spec : {M : Type 1} → statement M
 bodies-verdict-spec =

@@ -7,7 +7,7 @@ knows-requires : tie.Need-knows-requires
 knows-requires c κs = search needs
 
 returns : tie.Need-returns
-returns c = search (needs, kind-not-known, body-not-there, body-judged)
+returns c = search (needs, kind-not-known)
 
 stated-requires : tie.Need-stated-requires
 stated-requires c κs = search needs
@@ -25,10 +25,10 @@ enum-told-2 : tie.Need-enum-told-2
 enum-told-2 c = search needs
 
 returns-2 : tie.Need-returns-2
-returns-2 c = search (needs, kind-not-known, body-not-there, body-judged)
+returns-2 c = search (needs, body-judged)
 
 returns-3 : tie.Need-returns-3
-returns-3 c = search (needs, kind-not-known, body-not-there, body-judged)
+returns-3 c = search (needs, body-not-there)
 
 pub body-verdict-spec : {M : Type 1} → statement M
 body-verdict-spec =

@@ -15,7 +15,7 @@ enum-told-2 c = search needs
 
 returns : tie.Need-returns
 unfolding missingVerdict
-returns c = search (needs, stops-there, goes-on)
+returns c = search (needs, stops-there)
 
 present-verdict-requires-2 : tie.Need-present-verdict-requires-2
 present-verdict-requires-2 c κs = search needs
@@ -35,7 +35,7 @@ present-verdict-requires-3 c κs = search needs
 
 returns-3 : tie.Need-returns-3
 unfolding missingVerdict
-returns-3 c = search (needs, stops-there, goes-on)
+returns-3 c = search (needs, goes-on)
 
 pub missing-verdict-spec : {M : Type 1} → statement M
 missing-verdict-spec =

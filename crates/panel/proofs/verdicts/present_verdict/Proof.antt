@@ -16,10 +16,10 @@ refused-requires : tie.Need-refused-requires
 refused-requires c κs = search needs
 
 returns : tie.Need-returns
-returns c = search (needs, is-present, is-missing)
+returns c = search (needs, is-present)
 
 returns-2 : tie.Need-returns-2
-returns-2 c = search (needs, is-present, is-missing)
+returns-2 c = search (needs, is-missing)
 
 pub present-verdict-spec : {M : Type 1} → statement M
 present-verdict-spec =

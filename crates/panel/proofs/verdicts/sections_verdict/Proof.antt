@@ -15,7 +15,7 @@ enum-told-2 c = search needs
 
 returns : tie.Need-returns
 unfolding sectionsVerdict
-returns c = search (needs, stops-there, goes-on)
+returns c = search (needs, stops-there)
 
 missing-verdict-requires : tie.Need-missing-verdict-requires
 missing-verdict-requires c κs = search needs
@@ -35,7 +35,7 @@ bodies-verdict-requires c κs = search needs
 
 returns-3 : tie.Need-returns-3
 unfolding sectionsVerdict
-returns-3 c = search (needs, stops-there, goes-on)
+returns-3 c = search (needs, goes-on)
 
 pub sections-verdict-spec : {M : Type 1} → statement M
 sections-verdict-spec =

@@ -15,7 +15,7 @@ enum-told-2 c = search needs
 
 returns : tie.Need-returns
 unfolding verdictOf
-returns c = search (needs, stops-there, goes-on)
+returns c = search (needs, stops-there)
 
 layout-requires : tie.Need-layout-requires
 layout-requires c κs = search needs
@@ -35,7 +35,7 @@ sections-verdict-requires c κs = search needs
 
 returns-3 : tie.Need-returns-3
 unfolding verdictOf
-returns-3 c = search (needs, stops-there, goes-on)
+returns-3 c = search (needs, goes-on)
 
 pub verdict-spec : {M : Type 1} → statement M
 verdict-spec =

@@ -1,3 +1,4 @@
+-- `prescaled` meets its contract: an offset that might leave no room for the difference puts X beyond its limit.
 use mathlib.Core.Path.{_≡_, _∙_}
 use Prim.Native.Nat.{_^_, _<_}
 use native.Mathlib.Omega.{arith}

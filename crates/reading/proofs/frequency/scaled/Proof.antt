@@ -1,12 +1,12 @@
-use mathlib.Core.Path.{_≡_, ap, _∙_}
+-- `scaled` meets its contract: a product that might have no room puts X beyond its limit.
+use mathlib.Core.Path.{_≡_}
 use Prim.Native.Nat.{_^_, _<_}
 use native.Mathlib.Omega.{arith}
 use borrow.Author.Needs.{needs}
-use lib.IntN.{ℤ, pos, _*ℤ_}
+use lib.IntN.{pos, _*ℤ_}
 use mir.Syntax.{w64}
 use mir.Val.{SFits, toZ, ofZ}
 use mir.Facts.{toZ-ofZ, toZ-pos}
-use Rattle.reading.specs.Value.{within}
 use Rattle.reading.specs.Frequency.{scaledOf}
 use Rattle.reading.specs.FrequencyLaws.{nothing-to-multiply, far-product, product-fits}
 use Rattle.reading.proofs.frequency.scaled.Statement.{statement}
@@ -60,10 +60,8 @@ returns-3 : tie.Need-returns-3
 unfolding scaledOf
 returns-3 c =
     let p = c .before .before in
-    let a = p .before .before .before in
     let rounding = rw (operands p, toZ-ofZ (room p)) at (c .before .rounded-over-2-32 .ensures) in
-    let read = rw (toZ-ofZ (record { sfits = c .before .rounded-over-2-32 .ok })) at (c .limited .ensures) in
-    read ∙ ap (within (2 ^ 24) 24 (a .args .detail)) rounding
+    rw (toZ-ofZ (record { sfits = c .before .rounded-over-2-32 .ok }), rounding) at (c .limited .ensures)
 
 pub scaled-spec : {M : Type 1} → statement M
 scaled-spec =

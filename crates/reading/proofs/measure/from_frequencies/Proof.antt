@@ -3,7 +3,7 @@ use borrow.Author.Needs.{needs}
 use mir.Syntax.{w64}
 use mir.Facts.{toZ-ofZ}
 use Rattle.laws.specs.Pattern.{read-back}
-use Rattle.reading.specs.MeasuredLaws.{set-bound}
+use Rattle.reading.specs.MeasuredLaws.{set-bound, answer-known, answer-refused}
 use Rattle.reading.specs.Measured.{fromFrequencies}
 use Rattle.reading.proofs.measure.from_frequencies.Statement.{statement}
 use Rattle.reading.proofs.measure.from_frequencies.Tie as tie
@@ -31,14 +31,14 @@ returns c =
     let fp = toZ-ofZ (b .fits .fp) in
     let ft = toZ-ofZ (b .fits .ft) in
     let set = rw (fp, ft) at (c .before .before .before .before .set-result .ensures) in
-    (rw (read-back w64 (g .0 .0) (c .before .known-told .given .0 .1), fp, ft) at (c .from-pressure .ensures)) ∙ rw (← set, g .1)
+    (rw (read-back w64 (g .0 .0) (c .before .known-told .given .0 .1), fp, ft) at (c .from-pressure .ensures)) ∙ answer-known _ set (g .1)
 
 returns-2 : tie.Need-returns-2
 unfolding fromFrequencies
 returns-2 c =
     let b = c .before .before .before .before in
     let set = rw (toZ-ofZ (b .fits .fp), toZ-ofZ (b .fits .ft)) at (c .before .before .before .set-result .ensures) in
-    rw (← set, c .before .refusal .given .1)
+    answer-refused _ set (c .before .refusal .given .1)
 
 pub from-frequencies-spec : {M : Type 1} → statement M
 from-frequencies-spec =

@@ -3,6 +3,7 @@ use borrow.Author.Needs.{needs}
 use mir.Syntax.{w64}
 use mir.Facts.{toZ-ofZ}
 use Rattle.laws.specs.Pattern.{read-back}
+use Rattle.reading.specs.MeasuredLaws.{answer-known, answer-refused}
 use Rattle.reading.specs.Measured.{fromPressure}
 use Rattle.reading.proofs.measure.from_pressure.Statement.{statement}
 use Rattle.reading.proofs.measure.from_pressure.Tie as tie
@@ -30,14 +31,14 @@ returns c =
     let p = toZ-ofZ (b .fits .pressure) in
     let t = read-back w64 (g .0 .0) (c .before .before .known-told .given .0 .1) in
     let set = rw (toZ-ofZ (b .fits .fp), toZ-ofZ (b .fits .ft)) at (c .before .before .before .before .before .set-result .ensures) in
-    (rw (p, t, rw (p, t) at (c .before .mark .ensures)) at (c .show .ensures)) ∙ rw (← set, g .1)
+    (rw (p, t, rw (p, t) at (c .before .mark .ensures)) at (c .show .ensures)) ∙ answer-known _ set (g .1)
 
 returns-2 : tie.Need-returns-2
 unfolding fromPressure
 returns-2 c =
     let b = c .before .before .before .before in
     let set = rw (toZ-ofZ (b .fits .fp), toZ-ofZ (b .fits .ft)) at (c .before .before .before .set-result .ensures) in
-    rw (← set, c .before .refusal .given .1)
+    answer-refused _ set (c .before .refusal .given .1)
 
 pub from-pressure-spec : {M : Type 1} → statement M
 from-pressure-spec =

@@ -4,6 +4,7 @@ use mir.Syntax.{w64}
 use mir.Facts.{toZ-ofZ}
 use Rattle.laws.specs.Pattern.{read-back}
 use Rattle.reading.specs.FrequencyLaws.{frequency-bound}
+use Rattle.reading.specs.MeasuredLaws.{answer-known, answer-refused}
 use Rattle.reading.specs.Measured.{fromPressureFrequency}
 use Rattle.reading.proofs.measure.from_pressure_frequency.Statement.{statement}
 use Rattle.reading.proofs.measure.from_pressure_frequency.Tie as tie
@@ -28,11 +29,11 @@ unfolding fromPressureFrequency
 returns c =
     let b = c .before .before .before .before .before .before .before in
     let g = c .before .before .ft .given in
-    (rw (toZ-ofZ (b .fits .fp), read-back w64 (g .0 .0) (c .before .known-told .given .0 .1)) at (c .from-frequencies .ensures)) ∙ rw (← c .before .before .before .before .frequency .ensures, g .1)
+    (rw (toZ-ofZ (b .fits .fp), read-back w64 (g .0 .0) (c .before .known-told .given .0 .1)) at (c .from-frequencies .ensures)) ∙ answer-known _ (c .before .before .before .before .frequency .ensures) (g .1)
 
 returns-2 : tie.Need-returns-2
 unfolding fromPressureFrequency
-returns-2 c = rw (← c .before .before .before .frequency .ensures, c .before .refusal .given .1)
+returns-2 c = answer-refused _ (c .before .before .before .frequency .ensures) (c .before .refusal .given .1)
 
 pub from-pressure-frequency-spec : {M : Type 1} → statement M
 from-pressure-frequency-spec =

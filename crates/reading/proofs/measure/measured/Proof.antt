@@ -3,6 +3,7 @@ use borrow.Author.Needs.{needs}
 use mir.Syntax.{w64}
 use Rattle.laws.specs.Pattern.{read-back}
 use Rattle.reading.specs.FrequencyLaws.{frequency-bound}
+use Rattle.reading.specs.MeasuredLaws.{answer-known, answer-refused}
 use Rattle.reading.specs.Measured.{measuredOf}
 use Rattle.reading.proofs.measure.measured.Statement.{statement}
 use Rattle.reading.proofs.measure.measured.Tie as tie
@@ -25,11 +26,11 @@ returns : tie.Need-returns
 unfolding measuredOf
 returns c =
     let g = c .before .before .fp .given in
-    (rw (read-back w64 (g .0 .0) (c .before .known-told .given .0 .1)) at (c .from-pressure-frequency .ensures)) ∙ rw (← c .before .before .before .before .frequency .ensures, g .1)
+    (rw (read-back w64 (g .0 .0) (c .before .known-told .given .0 .1)) at (c .from-pressure-frequency .ensures)) ∙ answer-known _ (c .before .before .before .before .frequency .ensures) (g .1)
 
 returns-2 : tie.Need-returns-2
 unfolding measuredOf
-returns-2 c = rw (← c .before .before .before .frequency .ensures, c .before .refusal .given .1)
+returns-2 c = answer-refused _ (c .before .before .before .frequency .ensures) (c .before .refusal .given .1)
 
 pub measured-spec : {M : Type 1} → statement M
 measured-spec =

@@ -1,9 +1,9 @@
 use mathlib.Core.Path.{_∙_}
-use Prim.Native.Nat.{_-_}
 use borrow.Author.Needs.{needs}
 use mir.Syntax.{w64}
 use mir.Facts.{toZ-ofZ}
 use Rattle.laws.specs.Pattern.{read-back}
+use Rattle.reading.specs.ValueLaws.{value-known, value-refused}
 use Rattle.reading.specs.Polynomial.{gridResult}
 use Rattle.reading.proofs.polynomial.grid_result.Statement.{statement}
 use Rattle.reading.proofs.polynomial.grid_result.Tie as tie
@@ -26,14 +26,14 @@ returns c =
     let b = c .before .before .before .before .before in
     let g = c .before .before .sum .given in
     let grid = rw (toZ-ofZ (b .fits .xp), toZ-ofZ (b .fits .xt)) at (c .before .before .before .before .grid-sum .ensures) in
-    (rw (read-back w64 (g .0 .0) (c .before .known-told .given .0 .1)) at (c .limited .ensures)) ∙ rw (← grid, g .1)
+    (rw (read-back w64 (g .0 .0) (c .before .known-told .given .0 .1)) at (c .limited .ensures)) ∙ value-known _ grid (g .1)
 
 returns-2 : tie.Need-returns-2
 unfolding gridResult
 returns-2 c =
     let b = c .before .before .before .before in
     let grid = rw (toZ-ofZ (b .fits .xp), toZ-ofZ (b .fits .xt)) at (c .before .before .before .grid-sum .ensures) in
-    rw (← grid, c .before .refusal .given .1)
+    value-refused _ grid (c .before .refusal .given .1)
 
 pub grid-result-spec : {M : Type 1} → statement M
 grid-result-spec =

@@ -1,3 +1,4 @@
+-- `grid_sum` meets its contract: a turn takes the sum of the rows from one row earlier on.
 use mathlib.Core.Path.{_≡_, sym, _∙_}
 use Prim.Native.Nat.{suc, _-_, _<_, _≤_}
 use native.Mathlib.Omega.{arith}
@@ -21,9 +22,7 @@ abbrev μ-loop : tie.MeasureT-loop
 μ-loop kind xp xt grid sum₀ i₀ sum i = i
 
 loop-holds : tie.Need-loop-holds Inv-loop μ-loop
-loop-holds c =
-    let l : length (c .args .t4) ≤ 5 = omega arith in
-    (omega arith, grid-end _ _ _ (c .args .t4) 5 l, omega arith)
+loop-holds c = let l : length (c .args .t4) ≤ 5 = omega arith in search (needs, grid-end)
 
 sub-i : tie.Need-sub-i Inv-loop μ-loop
 sub-i c = search needs

@@ -1,9 +1,9 @@
 use mathlib.Core.Path.{sym, _∙_}
-use Prim.Native.Nat.{_-_}
 use borrow.Author.Needs.{needs}
 use mir.Syntax.{w64}
 use mir.Facts.{toZ-ofZ}
 use Rattle.laws.specs.Pattern.{read-back}
+use Rattle.reading.specs.ValueLaws.{value-known, value-refused}
 use Rattle.reading.specs.Polynomial.{resultFromXp}
 use Rattle.reading.specs.FrequencyLaws.{prescaled-bound}
 use Rattle.reading.proofs.polynomial.result_from_xp.Statement.{statement}
@@ -31,14 +31,14 @@ returns c =
     let b = c .before .before .before .before .before in
     let g = c .before .before .xt .given in
     let x = rw (toZ-ofZ (b .fits .temperature)) at (c .before .before .before .before .prescaled .ensures) in
-    (rw (toZ-ofZ (b .fits .xp), read-back w64 (g .0 .0) (c .before .known-told .given .0 .1)) at (c .grid-result .ensures)) ∙ rw (← x, g .1)
+    (rw (toZ-ofZ (b .fits .xp), read-back w64 (g .0 .0) (c .before .known-told .given .0 .1)) at (c .grid-result .ensures)) ∙ value-known _ x (g .1)
 
 returns-2 : tie.Need-returns-2
 unfolding resultFromXp
 returns-2 c =
     let b = c .before .before .before .before in
     let x = rw (toZ-ofZ (b .fits .temperature)) at (c .before .before .before .prescaled .ensures) in
-    rw (← x, c .before .refusal .given .1)
+    value-refused _ x (c .before .refusal .given .1)
 
 pub result-from-xp-spec : {M : Type 1} → statement M
 result-from-xp-spec =

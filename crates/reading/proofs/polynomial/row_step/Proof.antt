@@ -1,9 +1,9 @@
 use mathlib.Core.Path.{_∙_}
-use Prim.Native.Nat.{_-_}
 use borrow.Author.Needs.{needs}
 use mir.Syntax.{w64}
 use mir.Facts.{toZ-ofZ}
 use Rattle.laws.specs.Pattern.{read-back}
+use Rattle.reading.specs.ValueLaws.{value-known, value-refused}
 use Rattle.reading.specs.Polynomial.{rowStep}
 use Rattle.reading.proofs.polynomial.row_step.Statement.{statement}
 use Rattle.reading.proofs.polynomial.row_step.Tie as tie
@@ -26,13 +26,13 @@ returns c =
     let b = c .before .before .before .before .before in
     let g = c .before .before .coefficient .given in
     let row = rw (toZ-ofZ (b .fits .xt)) at (c .before .before .before .before .row-sum .ensures) in
-    (rw (toZ-ofZ (b .fits .xp), toZ-ofZ (b .fits .sum), read-back w64 (g .0 .0) (c .before .known-told .given .0 .1)) at (c .step .ensures)) ∙ rw (← row, g .1)
+    (rw (toZ-ofZ (b .fits .xp), toZ-ofZ (b .fits .sum), read-back w64 (g .0 .0) (c .before .known-told .given .0 .1)) at (c .step .ensures)) ∙ value-known _ row (g .1)
 
 returns-2 : tie.Need-returns-2
 unfolding rowStep
 returns-2 c =
     let row = rw (toZ-ofZ (c .before .before .before .before .fits .xt)) at (c .before .before .before .row-sum .ensures) in
-    rw (← row, c .before .refusal .given .1)
+    value-refused _ row (c .before .refusal .given .1)
 
 pub row-step-spec : {M : Type 1} → statement M
 row-step-spec =

@@ -1,3 +1,4 @@
+-- `row_sum` meets its contract: a turn takes the sum of the row from one place earlier on.
 use mathlib.Core.Path.{_≡_, sym, _∙_}
 use Prim.Native.Nat.{suc, _-_, _<_, _≤_}
 use native.Mathlib.Omega.{arith}
@@ -21,9 +22,7 @@ abbrev μ-loop : tie.MeasureT-loop
 μ-loop kind x row sum₀ i₀ sum i = i
 
 loop-holds : tie.Need-loop-holds Inv-loop μ-loop
-loop-holds c =
-    let l : length (c .args .t3) ≤ 5 = omega arith in
-    (omega arith, row-end _ _ (c .args .t3) 5 l, omega arith)
+loop-holds c = let l : length (c .args .t3) ≤ 5 = omega arith in search (needs, row-end)
 
 sub-i : tie.Need-sub-i Inv-loop μ-loop
 sub-i c = search needs

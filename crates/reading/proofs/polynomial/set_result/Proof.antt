@@ -1,9 +1,9 @@
 use mathlib.Core.Path.{sym, _∙_}
-use Prim.Native.Nat.{_-_}
 use borrow.Author.Needs.{needs}
 use mir.Syntax.{w64}
 use mir.Facts.{toZ-ofZ}
 use Rattle.laws.specs.Pattern.{read-back}
+use Rattle.reading.specs.ValueLaws.{value-known, value-refused}
 use Rattle.reading.specs.Polynomial.{setResult}
 use Rattle.reading.specs.FrequencyLaws.{prescaled-bound}
 use Rattle.reading.proofs.polynomial.set_result.Statement.{statement}
@@ -34,14 +34,14 @@ returns c =
     let b = c .before .before .before .before .before .before .before in
     let g = c .before .before .xp .given in
     let x = rw (toZ-ofZ (b .fits .pressure)) at (c .before .before .before .before .prescaled .ensures) in
-    (rw (toZ-ofZ (b .fits .temperature), read-back w64 (g .0 .0) (c .before .known-told .given .0 .1)) at (c .result-from-xp .ensures)) ∙ rw (← x, g .1)
+    (rw (toZ-ofZ (b .fits .temperature), read-back w64 (g .0 .0) (c .before .known-told .given .0 .1)) at (c .result-from-xp .ensures)) ∙ value-known _ x (g .1)
 
 returns-2 : tie.Need-returns-2
 unfolding setResult
 returns-2 c =
     let b = c .before .before .before .before .before .before in
     let x = rw (toZ-ofZ (b .fits .pressure)) at (c .before .before .before .prescaled .ensures) in
-    rw (← x, c .before .refusal .given .1)
+    value-refused _ x (c .before .refusal .given .1)
 
 pub set-result-spec : {M : Type 1} → statement M
 set-result-spec =

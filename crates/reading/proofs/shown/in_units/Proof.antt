@@ -1,3 +1,4 @@
+-- `in_units` meets its contract: the product has room in 64 bits.
 use mir.Syntax.{w32, w64}
 use mir.Val.{SFits}
 use mir.Facts.{toZ-ofZ, sfits-widen}

@@ -2,7 +2,7 @@ use borrow.Author.Needs.{needs}
 use mir.Syntax.{w64}
 use mir.Facts.{toZ-ofZ}
 use Rattle.laws.specs.Pattern.{read-back}
-use Rattle.reading.specs.Measured.{outside}
+use Rattle.reading.specs.MeasuredLaws.{outside-below, outside-above}
 use Rattle.reading.proofs.shown.lies_outside.Statement.{statement}
 use Rattle.reading.proofs.shown.lies_outside.Tie as tie
 
@@ -10,25 +10,24 @@ in-units-requires : tie.Need-in-units-requires
 in-units-requires c κs = search needs
 
 returns : tie.Need-returns
-unfolding outside
 returns c =
     let b = c .before .before in
     let low = rw (toZ-ofZ (b .fits .low)) at (c .before .in-units .ensures) in
-    let taken = rw (toZ-ofZ (b .fits .z), read-back w64 (c .before .in-units .result) (c .before .in-units .ok), low) at (c .if1 .taken) in
-    rw taken
+    outside-below (b .args .z) (b .args .low) (b .args .high)
+    (rw (toZ-ofZ (b .fits .z), read-back w64 (c .before .in-units .result) (c .before .in-units .ok), low) at (c .if1 .taken))
 
 in-units-requires-2 : tie.Need-in-units-requires-2
 in-units-requires-2 c κs = search needs
 
 returns-2 : tie.Need-returns-2
-unfolding outside
 returns-2 c =
     let b = c .before .before .before in
     let low = rw (toZ-ofZ (b .fits .low)) at (c .before .before .in-units .ensures) in
     let high = rw (toZ-ofZ (b .fits .high)) at (c .in-units2 .ensures) in
     let z = toZ-ofZ (b .fits .z) in
-    let left = rw (z, read-back w64 (c .before .before .in-units .result) (c .before .before .in-units .ok), low) at (c .before .if1 .left) in
-    rw (z, read-back w64 (c .in-units2 .result) (c .in-units2 .ok), high, left)
+    rw (z, read-back w64 (c .in-units2 .result) (c .in-units2 .ok), high)
+    (outside-above (b .args .z) (b .args .low) (b .args .high)
+    (rw (z, read-back w64 (c .before .before .in-units .result) (c .before .before .in-units .ok), low) at (c .before .if1 .left)))
 
 pub lies-outside-spec : {M : Type 1} → statement M
 lies-outside-spec = tie.close (tie.spec in-units-requires returns in-units-requires-2 returns-2)

@@ -1,3 +1,4 @@
+-- `mark` meets its contract: the mark by what both tests told.
 use mathlib.Core.Path.{_≡_}
 use mathlib.Core.Bool.{cond}
 use Prim.Native.Nat.{_+_, _^_, _<_}
