@@ -1,5 +1,5 @@
 -- The third demand: panels in the field go on working when a later image holds more.
-use mathlib.Core.Bool.{true, false}
+use mathlib.Core.Bool.{true, false, cond}
 use mathlib.Core.List.{List, [], _∷_}
 use mathlib.Core.Logic.{_↔_, _⊎_}
 use mathlib.Core.Path.{_≡_, refl, sym, ap, _∙_}
@@ -15,7 +15,8 @@ use Rattle.refusals.specs.Refusals.{refusal, result}
 use Rattle.image.specs.Sections.{Section, sections, bodiesOf, Fit}
 use Rattle.image.specs.RoundTrip.{image-length, image-good, sections-of-image}
 use Rattle.image.specs.Back.{sections-fit}
-use Rattle.image.specs.Find.{bodyOf}
+use Rattle.image.specs.Find.{bodyOf, found}
+use Rattle.image.specs.FindLaws.{found-good, found-in-image}
 use Rattle.builder.specs.Build.{buildImage}
 use Rattle.builder.specs.Lines.{linesOf}
 use Rattle.builder.specs.BuildLaws.{passes, lines-counted, lines-rise, lines-total, sections-again}
@@ -27,7 +28,7 @@ use Rattle.panel.specs.Verdict.{sectionsVerdict, verdictOf}
 use Rattle.panel.specs.Reading.{sectionsReading, afterVerdict, readingOf}
 use Rattle.promises.specs.Further.{merged, laidAnew, holds, EachKind, LowestLow, Further}
 use Rattle.promises.specs.Lower.{Below, LowestUnknown, NoneUnknown}
-use Rattle.promises.specs.FurtherLaws.{lowest-or-none, merged-fit, body-merged}
+use Rattle.promises.specs.FurtherLaws.{lowest-or-none, merged-fit, body-merged, body-of-merged}
 use Rattle.promises.specs.PanelLaws.{passed, rising-ascends, sections-ascend, unknown-high, held-passes, unknown-named, none-or-lowest, lowest-new, known-stays, bodies-same, missing-same, reading-same}
 use Rattle.promises.specs.LevelsLaws.{lower-accepts, lower-names, one-below-two, only-trim}
 
@@ -56,6 +57,13 @@ module _ (level : ℕ) (image : List ℕ) (further : List Section) (f : Further 
             }),
         sections-again all,
       )
+
+  -- In it each new kind has its body, and every other kind has the body that it had.
+  pub anew-found : (kind : ℕ) → found (laidAnew image further) kind ≡ cond (holds kind further) (bodyOf kind further) (found image kind)
+  unfolding laidAnew
+  anew-found kind =
+      rw (found-in-image all kind fit, found-good image kind (passed level image (f .accepted) .laid))
+      (body-of-merged kind (sections image) further (f .once) (f .not-held))
 
   kept : (kind : ℕ) → knows level kind ≡ true → bodyOf kind all ≡ bodyOf kind (sections image)
   kept kind known = known-stays level kind (sections image) further (f .not-known) known

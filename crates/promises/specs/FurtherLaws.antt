@@ -103,11 +103,33 @@ unfolding merged
 body-merged kind ss [] others = refl
 body-merged kind ss (x ∷ further) others = body-inserted kind x (merged ss further) (others .0) ∙ body-merged kind ss further (others .1)
 
--- ---- they fit
+-- ---- each further section has its own body
 
 neither : (a b : Bool) → (a || b) ≡ false → (a ≡ false) × (b ≡ false)
 neither true b e = never (sym e)
 neither false b e = (refl, e)
+
+body-here : (x : Section) (ss : List Section) → holds (x .kind) ss ≡ false → bodyOf (x .kind) (inserted x ss) ≡ some (x .body)
+unfolding inserted bodyOf
+body-here x [] new = rw (eq-eqb (x .kind) (x .kind) refl)
+body-here x (s ∷ ss) new =
+    let others = neither (eqb (x .kind) (s .kind)) (holds (x .kind) ss) (sym (holds-more (x .kind) s ss) ∙ new) in
+    decide (ltb (x .kind) (s .kind)) (λ e. rw (e, eq-eqb (x .kind) (x .kind) refl)) (λ e. rw (e, others .0) (body-here x ss (others .1)))
+
+-- a further section's kind has its body, and every other kind the body that it had
+pub body-of-merged : (kind : ℕ) (ss further : List Section) → EachOnce further → EachKind (λ other. holds other ss ≡ false) further
+    → bodyOf kind (merged ss further) ≡ cond (holds kind further) (bodyOf kind further) (bodyOf kind ss)
+unfolding merged bodyOf
+body-of-merged kind ss [] once new = refl
+body-of-merged kind ss (x ∷ further) once new =
+    decide (eqb kind (x .kind))
+    (λ (e : eqb kind (x .kind) ≡ true).
+    let same = eqb-true kind (x .kind) e in
+    let apart-from : holds (x .kind) (merged ss further) ≡ false = rw (holds-merged (x .kind) ss further, once .0, new .0) in
+    rw (e, same) (body-here x (merged ss further) apart-from))
+    (λ (e : eqb kind (x .kind) ≡ false). rw e (body-inserted kind x (merged ss further) e ∙ body-of-merged kind ss further (once .1) (new .1)))
+
+-- ---- they fit
 
 rising-inserted : (previous : ℕ) (x : Section) (ss : List Section) → previous < x .kind → x .kind ≤ 255 → holds (x .kind) ss ≡ false → Rising previous ss
     → Rising previous (inserted x ss)
