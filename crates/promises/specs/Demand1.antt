@@ -63,8 +63,8 @@ module _ (before after : List ℕ) (answer : Filled) where
 
   -- A load answers a length, or the text's refusal, or the panel's on the image that the text says.
   pub load-answers : (level : ℕ) (text : List ℕ) → Fills (loadText level (length before) text) before answer after
-      → (answer ≡ Length (filledLength answer)) ⊎ LoadRow level (filledNumber answer) (filledDetail answer)
-  load-answers level text = filled-told (LoadRow level) (loadText level (length before) text) before after answer (load-rows level (length before) text)
+      → (answer ≡ Length (filledLength answer)) ⊎ LoadRow level (length before) text (filledNumber answer) (filledDetail answer)
+  load-answers level text = filled-told (LoadRow level (length before) text) (loadText level (length before) text) before after answer (load-rows level (length before) text)
 
 -- A layout is good, or 5 or 6 with detail 0, 7 with a line's index or the number of lines, or 8 with a line's index.
 pub layout-answers : (image : List ℕ)

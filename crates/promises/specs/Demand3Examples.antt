@@ -1,6 +1,7 @@
 -- For each theorem of the third demand with hypotheses, a case that meets them.
 use mathlib.Core.Bool.{Bool, true, false, _&&_}
 use mathlib.Core.List.{List, [], _∷_}
+use mathlib.Core.Option.{some}
 use mathlib.Core.Path.{_≡_, refl, _∙_}
 use Prim.Native.Nat.{ℕ, _≤_}
 use native.Mathlib.Omega.{arith}
@@ -16,7 +17,7 @@ use Rattle.refusals.specs.declared.Verdict.the-variants.{Accepted, Refused as N
 use Rattle.refusals.specs.Refusals.{refusal, fieldsVerdict}
 use Rattle.image.specs.Sections.{Section, bodiesOf, imageOf, Fit}
 use Rattle.image.specs.RoundTrip.{image-good, image-bytes, sections-of-image}
-use Rattle.image.specs.Find.{bodyOf}
+use Rattle.image.specs.Find.{bodyOf, found}
 use Rattle.bodies.specs.Identity.{identityOf, daysIn, identityFields}
 use Rattle.bodies.specs.Set.{setOf, coefficientFields, setFields, rowFrom, rowsFrom}
 use Rattle.bodies.specs.Trim.{trimOf, trimFields}
@@ -31,7 +32,7 @@ use Rattle.panel.specs.Verdict.{unknownVerdict, missingVerdict, kindVerdict, bo
 use Rattle.panel.specs.Reading.{sectionsReading, readingOf}
 use Rattle.promises.specs.Further.{laidAnew, holds, EachKind, EachOnce, IsKind, Further}
 use Rattle.promises.specs.ExampleImage.{threeSections, fourSections, exampleImage, trimmedImage, exampleCounts}
-use Rattle.promises.specs.Demand3.{high-verdict, low-verdict, without-trim, with-trim}
+use Rattle.promises.specs.Demand3.{anew-found, high-verdict, low-verdict, without-trim, with-trim}
 
 -- ---- the images
 
@@ -98,26 +99,35 @@ module _ (new : List Section) (kinds : EachKind IsKind new) (once : EachOnce new
 abbrev highSections : List Section
 highSections = record { kind = 200; body = 1 ∷ 2 ∷ [] } ∷ record { kind = 130; body = [] } ∷ []
 
+further-high : Further 2 exampleImage highSections
+unfolding bodyOf bodiesOf knows
+further-high =
+    are-further highSections ((omega arith, omega arith), ((omega arith, omega arith), tt))
+    (refl, (refl, tt)) (refl, (refl, tt)) (refl, (refl, tt)) (omega arith) (omega arith)
+
 -- kinds 200 and 130 are passed over
 pub high-met : verdictOf 2 (laidAnew exampleImage highSections) ≡ Accepted
-unfolding bodyOf bodiesOf knows
-high-met =
-    high-verdict 2 exampleImage highSections
-    (are-further highSections ((omega arith, omega arith), ((omega arith, omega arith), tt)) (refl, (refl, tt)) (refl, (refl, tt)) (refl, (refl, tt)) (omega arith) (omega arith))
-    (omega arith, (omega arith, tt))
-    ∙ three-accepted
+high-met = high-verdict 2 exampleImage highSections further-high (omega arith, (omega arith, tt)) ∙ three-accepted
+
+-- and kind 200 is found in the new image
+pub anew-found-met : found (laidAnew exampleImage highSections) 200 ≡ some (1 ∷ 2 ∷ [])
+unfolding bodyOf
+anew-found-met = anew-found 2 exampleImage highSections further-high 200
 
 abbrev mixedSections : List Section
 mixedSections = record { kind = 200; body = 1 ∷ 2 ∷ [] } ∷ record { kind = 127; body = [] } ∷ record { kind = 5; body = 3 ∷ [] } ∷ []
 
+further-mixed : Further 2 exampleImage mixedSections
+unfolding bodyOf bodiesOf knows
+further-mixed =
+    are-further mixedSections ((omega arith, omega arith), ((omega arith, omega arith), ((omega arith, omega arith), tt)))
+    (refl, (refl, (refl, tt))) (refl, (refl, (refl, tt))) (refl, (refl, (refl, tt))) (omega arith) (omega arith)
+
 -- of kinds 200, 127 and 5 the panel names 5
 pub low-met : verdictOf 2 (laidAnew exampleImage mixedSections) ≡ NotAccepted (refusal 9 5)
-unfolding bodyOf bodiesOf knows
+unfolding bodyOf
 low-met =
-    low-verdict 2 exampleImage mixedSections
-    (are-further mixedSections ((omega arith, omega arith), ((omega arith, omega arith), ((omega arith, omega arith), tt))) (refl, (refl, (refl, tt)))
-    (refl, (refl, (refl, tt))) (refl, (refl, (refl, tt))) (omega arith) (omega arith))
-    5
+    low-verdict 2 exampleImage mixedSections further-mixed 5
     (record { held = refl; low = omega arith; lowest = (λ h. omega arith, (λ h. omega arith, (λ h. omega arith, tt))) })
 
 -- ---- two levels

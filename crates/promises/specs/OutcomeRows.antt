@@ -62,12 +62,12 @@ measured-rows cs identity pressureSet pressureGrid temperatureSet temperatureGri
     shown Untrimmed pressure temperature mark = unfold shownBy in tt
     shown (By t) pressure temperature mark = unfold shownBy in decide (leb (natAbs (t .zero)) (2 ^ 40)) (λ e. rw e tt) (λ e. rw e trim)
 
-pub load-rows : (level size : ℕ) (t : List ℕ) → OutcomeBy (LoadRow level) (loadText level size t)
+pub load-rows : (level size : ℕ) (t : List ℕ) → OutcomeBy (LoadRow level size t) (loadText level size t)
 unfolding loadText
-load-rows level size t = by (readText size t) (text-rows size t)
+load-rows level size t = by (readText size t) refl (text-rows size t)
   where
-    by : (o : Outcome) → OutcomeBy TextRow o → OutcomeBy (LoadRow level) (judged level o)
-    by (result x) row =
-        checked-by (LoadRow level) (verdictOf level x) x
-        (other-rows (VerdictRow level x) (LoadRow level) (λ number detail r. image x r) (verdictOf level x) (verdict-rows level x))
-    by (refused r) row = text row
+    by : (o : Outcome) → readText size t ≡ o → OutcomeBy TextRow o → OutcomeBy (LoadRow level size t) (judged level o)
+    by (result x) e row =
+        checked-by (LoadRow level size t) (verdictOf level x) x
+        (other-rows (VerdictRow level x) (LoadRow level size t) (λ number detail r. image x e r) (verdictOf level x) (verdict-rows level x))
+    by (refused r) e row = text row

@@ -6,6 +6,8 @@ use Prim.Native.Nat.{ℕ, zero, suc, _+_, _%_, _≤_, _<_}
 use lib.Dec.{eqb}
 use lib.ListN.{length}
 use Rattle.laws.specs.Sums.{total}
+use Rattle.refusals.specs.Refusals.{result as read-as}
+use Rattle.hextext.specs.Text.{readText}
 use Rattle.image.specs.Layout.{lineCount, linePlace, kindAt, lengthAt, sumAt, bodyAt, lineRight}
 use Rattle.image.specs.Sections.{sections}
 use Rattle.promises.specs.Further.{holds}
@@ -89,7 +91,8 @@ pub data ReadingRow (level : ℕ) (image : List ℕ) : (number detail : ℕ) →
   verdict : {number detail : ℕ} → VerdictRow level image number detail → ReadingRow level image number detail
   counts : {number detail : ℕ} → CountsRow number detail → ReadingRow level image number detail
 
--- of a load: the text's, or those of a panel on the image that the text says
-pub data LoadRow (level : ℕ) : (number detail : ℕ) → Type 0 where
-  text : {number detail : ℕ} → TextRow number detail → LoadRow level number detail
-  image : {number detail : ℕ} (read : List ℕ) → VerdictRow level read number detail → LoadRow level number detail
+-- of a load into a buffer of `size` bytes: the text's, or those of a panel on the image that the text is read as
+pub data LoadRow (level size : ℕ) (loaded : List ℕ) : (number detail : ℕ) → Type 0 where
+  text : {number detail : ℕ} → TextRow number detail → LoadRow level size loaded number detail
+  image : {number detail : ℕ} (read : List ℕ) → readText size loaded ≡ read-as read → VerdictRow level read number detail
+      → LoadRow level size loaded number detail
