@@ -12,6 +12,11 @@ pub fn number1(bytes: &[u8], place: usize) -> u8
 pub fn number2(bytes: &[u8], place: usize) -> u16
     ensures { λ r. ⌜ r ≡ numberAt 2 (now (bytes .entry)) place ⌝ }
 {
+    if 2 <= bytes.len() {
+        if place <= bytes.len() - 2 {
+            return whole2(bytes, place);
+        }
+    }
     if bytes.len() <= place {
         return 0;
     }
@@ -23,11 +28,13 @@ pub fn number2(bytes: &[u8], place: usize) -> u16
 pub fn number4(bytes: &[u8], place: usize) -> u32
     ensures { λ r. ⌜ r ≡ numberAt 4 (now (bytes .entry)) place ⌝ }
 {
+    if 4 <= bytes.len() {
+        if place <= bytes.len() - 4 {
+            return whole4(bytes, place);
+        }
+    }
     if bytes.len() <= place {
         return 0;
-    }
-    if 4 <= bytes.len() - place {
-        return whole4(bytes, place);
     }
     let low = number2(bytes, place) as u32;
     let high = number2(bytes, place + 2) as u32;
@@ -37,11 +44,13 @@ pub fn number4(bytes: &[u8], place: usize) -> u32
 pub fn number8(bytes: &[u8], place: usize) -> u64
     ensures { λ r. ⌜ r ≡ numberAt 8 (now (bytes .entry)) place ⌝ }
 {
+    if 8 <= bytes.len() {
+        if place <= bytes.len() - 8 {
+            return whole8(bytes, place);
+        }
+    }
     if bytes.len() <= place {
         return 0;
-    }
-    if 8 <= bytes.len() - place {
-        return whole8(bytes, place);
     }
     let low = number4(bytes, place) as u64;
     let high = number4(bytes, place + 4) as u64;

@@ -3,17 +3,17 @@ use Rattle.numbers.specs.FieldsLaws.{number-past-end, number-of-halves}
 use Rattle.numbers.proofs.fields.number8.Statement.{statement}
 use Rattle.numbers.proofs.fields.number8.Tie as tie
 
-returns : tie.Need-returns
-returns c = search (needs, number-past-end)
-
 sub-if2 : tie.Need-sub-if2
 sub-if2 c = search needs
 
 whole8-requires : tie.Need-whole8-requires
 whole8-requires c κs = search needs
 
+returns : tie.Need-returns
+returns c = search needs
+
 returns-2 : tie.Need-returns-2
-returns-2 c = search needs
+returns-2 c = search (needs, number-past-end)
 
 number4-requires : tie.Need-number4-requires
 number4-requires c κs = search needs
@@ -43,9 +43,9 @@ pub number8-spec : {M : Type 1} → statement M
 number8-spec =
     tie.close
     (tie.spec
-    returns
     sub-if2
     whole8-requires
+    returns
     returns-2
     number4-requires
     cast-low
