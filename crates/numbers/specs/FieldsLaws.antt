@@ -40,6 +40,16 @@ pub number-past-end : (w : ℕ) (l : List ℕ) (place : ℕ) → length l ≤ pl
 unfolding numberAt littleEndian
 number-past-end w l place h = rw (drop-of-length-le l h, take-nil w)
 
+-- of two bytes, the second past the end
+number-of-last : (l : List ℕ) (place : ℕ) {low : ℕ} → low ≡ numberAt 1 l place → length l ≤ place + 1 → low ≡ numberAt 2 l place
+number-of-last l place e h = let both = number-of-halves 1 1 l place e (number-past-end 1 l (place + 1) h) in omega arith
+
+pub number-of-short : (l : List ℕ) (place : ℕ) {low : ℕ} → low ≡ numberAt 1 l place → length l < 2 → low ≡ numberAt 2 l place
+number-of-short l place e h = number-of-last l place e (omega arith)
+
+pub number-at-end : (l : List ℕ) (place : ℕ) {low : ℕ} → low ≡ numberAt 1 l place → length l - 2 < place → low ≡ numberAt 2 l place
+number-at-end l place e h = number-of-last l place e (omega arith)
+
 -- seen from a place before it
 pub number-from : (w : ℕ) (l : List ℕ) (from place : ℕ) → numberAt w (drop from l) place ≡ numberAt w l (from + place)
 unfolding numberAt

@@ -12,17 +12,13 @@ pub fn number1(bytes: &[u8], place: usize) -> u8
 pub fn number2(bytes: &[u8], place: usize) -> u16
     ensures { λ r. ⌜ r ≡ numberAt 2 (now (bytes .entry)) place ⌝ }
 {
-    if 2 <= bytes.len() {
-        if place <= bytes.len() - 2 {
-            return whole2(bytes, place);
-        }
+    if bytes.len() < 2 {
+        return number1(bytes, place) as u16;
     }
-    if bytes.len() <= place {
-        return 0;
+    if bytes.len() - 2 < place {
+        return number1(bytes, place) as u16;
     }
-    let low = number1(bytes, place) as u16;
-    let high = number1(bytes, place + 1) as u16;
-    low + 256 * high
+    whole2(bytes, place)
 }
 
 pub fn number4(bytes: &[u8], place: usize) -> u32
