@@ -14,10 +14,12 @@ use Rattle.laws.specs.Cases.{both-left, both-right}
 use Rattle.numbers.specs.Fields.{littleEndian, numberAt, twosComplement}
 use Rattle.numbers.specs.Rounded.{rounded}
 use Rattle.refusals.specs.declared.Verdict.the-variants.{Accepted, Refused as NotAccepted}
-use Rattle.refusals.specs.Refusals.{refusal, fieldsVerdict}
-use Rattle.image.specs.Sections.{Section, bodiesOf, imageOf, Fit}
+use Rattle.refusals.specs.Refusals.{result, refusal, fieldsVerdict}
+use Rattle.image.specs.Sections.{Section, sections, bodiesOf, imageOf, Fit}
 use Rattle.image.specs.RoundTrip.{image-good, image-bytes, sections-of-image}
 use Rattle.image.specs.Find.{bodyOf, found}
+use Rattle.builder.specs.Build.{buildImage}
+use Rattle.builder.specs.Lines.{linesOf}
 use Rattle.bodies.specs.Identity.{identityOf, daysIn, identityFields}
 use Rattle.bodies.specs.Set.{setOf, coefficientFields, setFields, rowFrom, rowsFrom}
 use Rattle.bodies.specs.Trim.{trimOf, trimFields}
@@ -30,9 +32,9 @@ use Rattle.reading.specs.Measured.{outside, markOf, trimmedBy, shownBy, fromPre
 use Rattle.panel.specs.Levels.{isLevel, knows}
 use Rattle.panel.specs.Verdict.{unknownVerdict, missingVerdict, kindVerdict, bodyVerdict, bodiesVerdict, sectionsVerdict, verdictOf}
 use Rattle.panel.specs.Reading.{sectionsReading, readingOf}
-use Rattle.promises.specs.Further.{laidAnew, holds, EachKind, EachOnce, IsKind, Further}
+use Rattle.promises.specs.Further.{merged, laidAnew, holds, EachKind, EachOnce, IsKind, Further}
 use Rattle.promises.specs.ExampleImage.{threeSections, fourSections, exampleImage, trimmedImage, exampleCounts}
-use Rattle.promises.specs.Demand3.{anew-found, high-verdict, low-verdict, without-trim, with-trim}
+use Rattle.promises.specs.Demand3.{built-anew, anew-found, high-verdict, high-reading, low-verdict, without-trim, with-trim, refuses-exactly, shows-exactly}
 
 -- ---- the images
 
@@ -160,3 +162,20 @@ pub with-trim-met : readingOf 1 trimmedImage exampleCounts ≡ Refused (refusal 
 with-trim-met =
     with-trim trimmedImage exampleCounts exampleReading (shown-at-two fourSections four-fit four-right four-read)
     (rw (sections-of-image fourSections) (unfold bodyOf in refl))
+
+-- ---- the others of the third demand
+
+pub built-anew-met : (size : ℕ) → length (laidAnew exampleImage highSections) ≤ size
+    → buildImage size (linesOf (merged (sections exampleImage) highSections)) (bodiesOf (merged (sections exampleImage) highSections)) ≡ result (laidAnew exampleImage highSections)
+built-anew-met = built-anew 2 exampleImage highSections further-high
+
+pub high-reading-met : readingOf 2 (laidAnew exampleImage highSections) exampleCounts ≡ Shown exampleReading
+high-reading-met =
+    high-reading 2 exampleImage highSections further-high (omega arith, (omega arith, tt)) exampleCounts
+    ∙ shown-at-two threeSections three-fit three-right three-read
+
+pub refuses-exactly-met : holds 4 (sections trimmedImage) ≡ true
+refuses-exactly-met = refuses-exactly trimmedImage exampleCounts exampleReading (shown-at-two fourSections four-fit four-right four-read) .0 with-trim-met
+
+pub shows-exactly-met : holds 4 (sections exampleImage) ≡ false
+shows-exactly-met = shows-exactly exampleImage exampleCounts exampleReading (shown-at-two threeSections three-fit three-right three-read) .0 without-trim-met
