@@ -32,9 +32,9 @@ use Rattle.reading.specs.Measured.{outside, markOf, trimmedBy, shownBy, fromPre
 use Rattle.panel.specs.Levels.{isLevel, knows}
 use Rattle.panel.specs.Verdict.{unknownVerdict, missingVerdict, kindVerdict, bodyVerdict, bodiesVerdict, sectionsVerdict, verdictOf}
 use Rattle.panel.specs.Reading.{sectionsReading, readingOf}
-use Rattle.promises.specs.Further.{merged, laidAnew, holds, EachKind, EachOnce, IsKind, Further}
+use Rattle.promises.specs.Further.{merged, laidAnew, holds, EachKind, EachOnce, IsKind, LowestLow, Further}
 use Rattle.promises.specs.ExampleImage.{threeSections, fourSections, exampleImage, trimmedImage, exampleCounts}
-use Rattle.promises.specs.Demand3.{built-anew, anew-found, high-verdict, high-reading, low-verdict, without-trim, with-trim, refuses-exactly, shows-exactly}
+use Rattle.promises.specs.Demand3.{built-anew, anew-found, high-verdict, high-reading, low-verdict, low-reading, without-trim, with-trim, refuses-exactly, shows-exactly}
 
 -- ---- the images
 
@@ -125,12 +125,16 @@ further-mixed =
     are-further mixedSections ((omega arith, omega arith), ((omega arith, omega arith), ((omega arith, omega arith), tt)))
     (refl, (refl, (refl, tt))) (refl, (refl, (refl, tt))) (refl, (refl, (refl, tt))) (omega arith) (omega arith)
 
+lowest-five : LowestLow mixedSections 5
+unfolding bodyOf
+lowest-five = record { held = refl; low = omega arith; lowest = (λ h. omega arith, (λ h. omega arith, (λ h. omega arith, tt))) }
+
 -- of kinds 200, 127 and 5 the panel names 5
 pub low-met : verdictOf 2 (laidAnew exampleImage mixedSections) ≡ NotAccepted (refusal 9 5)
-unfolding bodyOf
-low-met =
-    low-verdict 2 exampleImage mixedSections further-mixed 5
-    (record { held = refl; low = omega arith; lowest = (λ h. omega arith, (λ h. omega arith, (λ h. omega arith, tt))) })
+low-met = low-verdict 2 exampleImage mixedSections further-mixed 5 lowest-five
+
+pub low-reading-met : readingOf 2 (laidAnew exampleImage mixedSections) exampleCounts ≡ Refused (refusal 9 5)
+low-reading-met = low-reading 2 exampleImage mixedSections further-mixed 5 lowest-five exampleCounts
 
 -- ---- two levels
 
