@@ -5,7 +5,7 @@ use mathlib.Core.Logic.{_⊎_}
 use mathlib.Core.Path.{_≡_, refl}
 use Prim.Native.Nat.{ℕ, _-_}
 use native.Mathlib.Omega.{arith}
-use lib.IntN.{ℤ}
+use lib.IntN.{ℤ, pos}
 use lib.ListN.{length, take, drop, replicate}
 use lib.Seq.{take-length}
 use Rattle.refusals.specs.declared.Refusal.{Refusal}
@@ -35,7 +35,7 @@ use Rattle.panel.specs.Levels.{isLevel}
 use Rattle.panel.specs.Verdict.{verdictOf}
 use Rattle.panel.specs.Reading.{readingOf}
 use Rattle.panel.specs.Load.{loadText}
-use Rattle.promises.specs.Paper.{answerNumber, answerDetail}
+use Rattle.promises.specs.Paper.{answerNumber, answerDetail, answerPressure, answerTemperature, answerUnit, answerMark}
 use Rattle.promises.specs.RefusalRows.{TextRow, WriterRow, BuilderRow, LayoutRow, VerdictRow, MeasuredRow, ReadingRow, LoadRow}
 use Rattle.promises.specs.RowsLaws.{fields-told, verdict-told, filled-told, answer-told}
 use Rattle.promises.specs.OutcomeRows.{text-rows, writer-rows, builder-rows, measured-rows, load-rows}
@@ -108,6 +108,11 @@ measured-answers counts identity pressureSet pressureGrid temperatureSet tempera
 -- A refusal holds no reading.
 pub refusal-shows-nothing : (answer : Answer) (r : Refusal) (reading : Reading) → answer ≡ Refused r → answer ≡ Shown reading → ⊥
 refusal-shows-nothing answer r reading e f = let z : _≡_ {A = ℕ} 0 1 = cc in omega arith
+
+-- Told in numbers, its values are all 0.
+pub refusal-values-zero : (r : Refusal)
+    → (answerPressure (Refused r) ≡ pos 0) × (answerTemperature (Refused r) ≡ pos 0) × (answerUnit (Refused r) ≡ 0) × (answerMark (Refused r) ≡ 0)
+refusal-values-zero r = (refl, refl, refl, refl)
 
 module _ (outcome : Outcome) (before after : List ℕ) where
   -- Whatever was lent to hold a result holds zeros after a refusal.
