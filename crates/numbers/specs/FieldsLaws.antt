@@ -5,7 +5,8 @@ use Prim.Native.Nat.{ℕ, zero, suc, _+_, _-_, _*_, _^_, _≤_, _<_}
 use native.Mathlib.Nat.{mul-assoc, mul-comm, one-le-pow, pow-suc, zero-add}
 use native.Mathlib.Omega.{arith}
 use borrow.Author.Tests.{lt-ltb, le-ltb}
-use lib.IntN.{negsuc, _-ℤ_}
+use lib.IntN.{ℤ, negsuc, _-ℤ_}
+use lib.Signed.{mag}
 use lib.ListN.{length, take, drop, getD, drop-of-length-le, List·getD-eq-default}
 use lib.Seq.{drop-cons, drop-drop, take-nil}
 use mir.Syntax.{Width, w8, w16, w32, w64, w128}
@@ -14,8 +15,8 @@ use mir.Facts.{toZ-pos, toZ-ofZ}
 use Rattle.laws.specs.Bytes.{Bytes, bytes-drop}
 use Rattle.laws.specs.Cases.{split}
 use Rattle.laws.specs.Magnitude.{natural-difference, difference-lt}
-use Rattle.laws.specs.Pattern.{past-minus-one}
-use Rattle.numbers.specs.Fields.{littleEndian, numberAt, twosComplement}
+use Rattle.laws.specs.Pattern.{read-back, past-minus-one}
+use Rattle.numbers.specs.Fields.{littleEndian, numberAt, twosComplement, signedAt}
 
 -- w bytes and then v more: the low part, and the high part after it
 joined : (w v : ℕ) (l : List ℕ) → littleEndian (take (w + v) l) ≡ littleEndian (take w l) + 256 ^ w * littleEndian (take v (drop w l))
@@ -65,6 +66,35 @@ byte-at l place =
 pub two-bytes-at : (l : List ℕ) (place : ℕ) → numberAt 2 l place ≡ getD l place 0 + 256 * getD l (place + 1) 0
 two-bytes-at l place = sym (number-of-halves 1 1 l place (sym (byte-at l place)) (sym (byte-at l (place + 1))))
 
+-- w bytes one by one, from the i-th after a place on, and from the place itself on; 0 past the end
+abbrev bytesFrom : (w : ℕ) → List ℕ → (place i : ℕ) → List ℕ
+bytesFrom zero l place i = []
+bytesFrom (suc w) l place i = getD l (place + i) 0 ∷ bytesFrom w l place (i + 1)
+
+abbrev pub bytesAt : (w : ℕ) → List ℕ → (place : ℕ) → List ℕ
+bytesAt zero l place = []
+bytesAt (suc w) l place = getD l place 0 ∷ bytesFrom w l place 1
+
+-- a number by its low byte and the number after it
+by-low-byte : (w : ℕ) (l : List ℕ) (place : ℕ) → getD l place 0 + 256 * numberAt w l (place + 1) ≡ numberAt (suc w) l place
+by-low-byte w l place = let e : suc w ≡ 1 + w = omega arith in rw e (number-of-halves 1 w l place (sym (byte-at l place)) refl)
+
+spelled-from : (w : ℕ) (l : List ℕ) (place i : ℕ) → numberAt w (bytesFrom w l place i) 0 ≡ numberAt w l (place + i)
+unfolding numberAt littleEndian
+spelled-from zero l place i = refl
+spelled-from (suc w) l place i =
+    let e : place + (i + 1) ≡ place + i + 1 = omega arith in
+    rw (spelled-from w l place (i + 1), e) (by-low-byte w l (place + i))
+
+-- a number is that of its own bytes, wherever they are read from
+spelled-alike : (w : ℕ) (l : List ℕ) (place : ℕ) → numberAt w (bytesAt w l place) 0 ≡ numberAt w l place
+unfolding numberAt littleEndian
+spelled-alike zero l place = refl
+spelled-alike (suc w) l place = rw (spelled-from w l place 1) (by-low-byte w l place)
+
+pub signed-of-bytes : (w : ℕ) (l : List ℕ) (place : ℕ) {r : ℤ} → r ≡ signedAt w (bytesAt w l place) 0 → r ≡ signedAt w l place
+signed-of-bytes w l place e = rw (spelled-alike w l place) at e
+
 spelled-small : (w : ℕ) (l : List ℕ) → Bytes l → littleEndian (take w l) < 256 ^ w
 unfolding littleEndian
 spelled-small zero l h = omega arith
@@ -111,3 +141,7 @@ module _ (w : Width) (x : ℕ) (h : 2 ^ hbits w ≤ x) (k : x < 2 ^ bits w) wher
       let f : 2 ^ bits w - 1 - x ≡ 2 ^ bits w - suc x = omega arith in
       toZ-ofZ signed-high-fits ∙ below-zero-is
       ∙ rw (← e, le-ltb (2 * x) (2 ^ bits w) (omega arith), natural-difference x (2 ^ bits w), difference-lt x (2 ^ bits w) k, f)
+
+-- a sign that the code asked for of the pattern x
+pub signed-of-pattern : (w : Width) (all x y : ℕ) (z : ℤ) → mag z < 2 ^ hbits w → z ≡ twosComplement all x → x ≡ y → toZ w (ofZ w z) ≡ twosComplement all y
+signed-of-pattern w all x y z h e f = read-back w z h ∙ rw f at e

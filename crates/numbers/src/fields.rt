@@ -1,7 +1,7 @@
 ghost use mathlib.Core.Path.{_≡_};
-ghost use Prim.Native.Nat.{_+_, _≤_, _<_};
+ghost use Prim.Native.Nat.{_+_, _^_, _≤_, _<_};
 ghost use lib.ListN.{length};
-ghost use Rattle.numbers.specs.Fields.{numberAt, signedAt};
+ghost use Rattle.numbers.specs.Fields.{numberAt, twosComplement, signedAt};
 
 pub fn number1(bytes: &[u8], place: usize) -> u8
     ensures { λ r. ⌜ r ≡ numberAt 1 (now (bytes .entry)) place ⌝ }
@@ -67,7 +67,19 @@ pub fn signed4(bytes: &[u8], place: usize) -> i32
 pub fn signed8(bytes: &[u8], place: usize) -> i64
     ensures { λ r. ⌜ r ≡ signedAt 8 (now (bytes .entry)) place ⌝ }
 {
-    let number = number8(bytes, place);
+    signed(number8(bytes, place))
+}
+
+// Of eight bytes by value: a caller that knows that they are all there needs no test.
+pub fn signed_of_8(bytes: [u8; 8]) -> i64
+    ensures { λ r. ⌜ r ≡ signedAt 8 bytes 0 ⌝ }
+{
+    signed(whole8(&bytes, 0))
+}
+
+fn signed(number: u64) -> i64
+    ensures { λ r. ⌜ r ≡ twosComplement (256 ^ 8) number ⌝ }
+{
     if number < 9223372036854775808 {
         number as i64
     } else {

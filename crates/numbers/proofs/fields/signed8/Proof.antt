@@ -1,31 +1,17 @@
 use borrow.Author.Needs.{needs}
 use mir.Syntax.{w64}
-use Rattle.numbers.specs.FieldsLaws.{signed-low, signed-high-fits, signed-high}
+use Rattle.numbers.specs.FieldsLaws.{signed-of-pattern}
 use Rattle.numbers.proofs.fields.signed8.Statement.{statement}
 use Rattle.numbers.proofs.fields.signed8.Tie as tie
 
 number8-requires : tie.Need-number8-requires
 number8-requires c κs = search needs
 
-cast-result : tie.Need-cast-result
-cast-result c = search needs
-
-sub-result : tie.Need-sub-result
-sub-result c = search needs
-
-cast-result-2 : tie.Need-cast-result-2
-cast-result-2 c = search needs
-
-sub-result-2 : tie.Need-sub-result-2
-sub-result-2 c = search (needs, signed-high-fits w64)
+signed-requires : tie.Need-signed-requires
+signed-requires c κs = search needs
 
 returns : tie.Need-returns
-returns c = search (needs, signed-low w64)
-
-returns-2 : tie.Need-returns-2
-returns-2 c = search (needs, signed-high w64)
+returns c = search (needs, signed-of-pattern w64)
 
 pub signed8-spec : {M : Type 1} → statement M
-signed8-spec =
-    tie.close
-    (tie.spec number8-requires cast-result sub-result cast-result-2 sub-result-2 returns returns-2)
+signed8-spec = tie.close (tie.spec number8-requires signed-requires returns)
