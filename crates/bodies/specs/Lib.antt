@@ -1,5 +1,6 @@
 pub mod Identity
 pub mod Set
+pub mod SetAsked
 pub mod Trim
 pub mod Note
 pub mod TestsLaws

@@ -67,9 +67,10 @@ setVerdict number body = fieldsVerdict number (setFields body)
 -- ---- the grid
 
 -- five rows of five, in the body's order, absent places 0: row 0 is A0, A1, .., row 1 is B0, ..
+-- A body too short for its orders, which no verdict accepts, fills no place.
 abbrev pub gridPlace : List ℕ → (row place : ℕ) → ℤ
 gridPlace body row place =
-    cond (leb row (pressureOrder body) && leb place (temperatureOrder body))
+    cond (leb (28 + 8 * coefficientCount body) (length body) && leb row (pressureOrder body) && leb place (temperatureOrder body))
     (coefficientAt body (row * (temperatureOrder body + 1) + place))
     (pos 0)
 

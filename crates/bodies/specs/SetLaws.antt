@@ -16,6 +16,7 @@ use Rattle.refusals.specs.FieldsVerdictLaws.{Wrong, Judged, Passed, stop-at-wro
 use Rattle.bodies.specs.declared.Set.{Set}
 use Rattle.bodies.specs.TestsLaws.{equal, unequal}
 use Rattle.bodies.specs.Set.{setOf, pressureOrder, temperatureOrder, coefficientCount, coefficientAt, multiplierRight, offsetRight, coefficientFields}
+use Rattle.bodies.specs.SetAsked.{Ordered}
 
 pub set-read : (body : List ℕ) {np mp fp nt mt ft : ℕ}
     → np ≡ pressureOrder body → mp ≡ numberAt 4 body 4 → fp ≡ numberAt 8 body 8
@@ -39,13 +40,6 @@ few x y h k =
     let b : y + 1 ≤ 5 = omega arith in
     mul-le-mul a b
 
--- the orders that the code read, and how many coefficients they make
-pub record Ordered (body : List ℕ) (x y count : ℕ) : Type 0 where
-  pub pressure : x ≡ pressureOrder body
-  pub temperature : y ≡ temperatureOrder body
-  pub counted : count ≡ coefficientCount body
-  pub small : count ≤ 25
-
 module _ (body : List ℕ) (x y count : ℕ) (e : x ≡ pressureOrder body) (f : y ≡ temperatureOrder body) (c : count ≡ (x + 1) * (y + 1)) where
   coefficients-counted : count ≡ coefficientCount body
   coefficients-counted = rw (e, f) at c
@@ -59,8 +53,8 @@ module _ (body : List ℕ) (x y count : ℕ) (e : x ≡ pressureOrder body) (f :
   pub other-length-told : (length body ≡ 28 + 8 * count → ⊥) → Wrong (eqb (length body) (28 + 8 * coefficientCount body)) true
   other-length-told h = unequal (length body) (28 + 8 * coefficientCount body) (λ (g : length body ≡ 28 + 8 * coefficientCount body). h (g ∙ sym all-there))
 
-  pub ordered : count ≤ 25 → Ordered body x y count
-  ordered h = record { pressure = e; temperature = f; counted = coefficients-counted; small = h }
+  pub ordered : count ≤ 25 → length body ≡ 28 + 8 * count → Ordered body x y count
+  ordered h l = record { pressure = e; temperature = f; counted = coefficients-counted; small = h; fills = l }
 
 pub coefficients-judged : (number : ℕ) (body : List ℕ) (x y count : ℕ) {verdict : Verdict} → Ordered body x y count
     → verdict ≡ fieldsVerdict number (coefficientFields body count 0) → Judged number (coefficientFields body (coefficientCount body) 0) verdict

@@ -6,15 +6,15 @@ use super::refused;
 use numbers::fields::number1;
 use numbers::fields::number4;
 use numbers::fields::number8;
-use numbers::fields::signed8;
+use numbers::fields::signed_of_8;
 use refusals::Verdict;
 ghost use mathlib.Core.Path.{_≡_};
 ghost use mathlib.Core.Bool.{not};
 ghost use Prim.Native.Nat.{_+_, _*_, _≤_, _<_};
-ghost use lib.ListN.{drop};
+ghost use lib.ListN.{length, drop};
+ghost use Rattle.numbers.specs.Fields.{signedAt};
 ghost use Rattle.refusals.specs.Refusals.{fieldsVerdict};
-ghost use Rattle.bodies.specs.SetLaws.{Ordered};
-ghost use Rattle.bodies.specs.GridLaws.{Gridded};
+ghost use Rattle.bodies.specs.SetAsked.{Ordered, Gridded};
 ghost use Rattle.bodies.specs.Set.{setOf, setVerdict, setFields, multiplierRight, offsetRight, coefficientFields, gridPlace, rowFrom, gridOf};
 
 pub fn read_set(body: &[u8]) -> Set
@@ -112,12 +112,12 @@ fn offset_wrong(order: u8, offset: u64) -> bool
 }
 
 fn coefficients_verdict(body: &[u8], count: usize, number: u32) -> Verdict
-    requires { ⌜ count ≤ 25 ⌝ }
+    requires { ⌜ (count ≤ 25) × (length (now body) ≡ 28 + 8 * count) ⌝ }
     ensures { λ r. ⌜ r ≡ fieldsVerdict number (coefficientFields (now (body .entry)) count 0) ⌝ }
 {
     let mut i: usize = 0;
     while i < count {
-        if beyond(signed8(body, 28 + 8 * i), 17179869184) {
+        if beyond(coefficient(body, 28 + 8 * i), 17179869184) {
             return refused(number);
         }
         i += 1;
@@ -131,6 +131,9 @@ pub fn read_grid(body: &[u8]) -> [[i64; 5]; 5]
     let rows = number1(body, 2) as usize + 1;
     let places = number1(body, 3) as usize + 1;
     let mut grid = [[0i64; 5]; 5];
+    if body.len() < 28 + 8 * (rows * places) {
+        return grid;
+    }
     let mut row: usize = 0;
     while row < 5 {
         let coefficients = read_row(body, rows, places, row);
@@ -164,5 +167,21 @@ fn read_place(body: &[u8], rows: usize, places: usize, row: usize, place: usize)
     if places <= place {
         return 0;
     }
-    signed8(body, 28 + 8 * (row * places + place))
+    coefficient(body, 28 + 8 * (row * places + place))
+}
+
+fn coefficient(body: &[u8], at: usize) -> i64
+    requires { ⌜ at + 8 ≤ length (now body) ⌝ }
+    ensures { λ r. ⌜ r ≡ signedAt 8 (now (body .entry)) at ⌝ }
+{
+    signed_of_8([
+        body[at],
+        body[at + 1],
+        body[at + 2],
+        body[at + 3],
+        body[at + 4],
+        body[at + 5],
+        body[at + 6],
+        body[at + 7],
+    ])
 }

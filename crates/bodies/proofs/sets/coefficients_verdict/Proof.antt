@@ -17,14 +17,14 @@ abbrev μ-loop : tie.MeasureT-loop
 loop-holds : tie.Need-loop-holds Inv-loop μ-loop
 loop-holds c = search laws
 
-mul-signed8 : tie.Need-mul-signed8 Inv-loop μ-loop
-mul-signed8 c = search laws
+mul-coefficient : tie.Need-mul-coefficient Inv-loop μ-loop
+mul-coefficient c = search laws
 
-add-signed8 : tie.Need-add-signed8 Inv-loop μ-loop
-add-signed8 c = search laws
+add-coefficient : tie.Need-add-coefficient Inv-loop μ-loop
+add-coefficient c = search laws
 
-signed8-requires : tie.Need-signed8-requires Inv-loop μ-loop
-signed8-requires c κs = search laws
+coefficient-requires : tie.Need-coefficient-requires Inv-loop μ-loop
+coefficient-requires c κs = search laws
 
 beyond-requires : tie.Need-beyond-requires Inv-loop μ-loop
 beyond-requires c κs = search laws
@@ -54,9 +54,9 @@ coefficients-verdict-spec =
     Inv-loop
     μ-loop
     loop-holds
-    mul-signed8
-    add-signed8
-    signed8-requires
+    mul-coefficient
+    add-coefficient
+    coefficient-requires
     beyond-requires
     refused-requires
     returns

@@ -1,12 +1,13 @@
 use Prim.Native.Nat.{_-_}
+use native.Mathlib.Omega.{arith}
 use borrow.Author.Needs.{needs}
 use Rattle.laws.specs.Loops.{Filling, filling-first, filling-more}
 use Rattle.bodies.specs.Set.{rowsFrom}
-use Rattle.bodies.specs.GridLaws.{rows-next, rows-filled}
+use Rattle.bodies.specs.GridLaws.{too-short, count-fits, coefficients-fit, length-fits, rows-next, rows-filled}
 use Rattle.bodies.proofs.sets.read_grid.Statement.{statement}
 use Rattle.bodies.proofs.sets.read_grid.Tie as tie
 
-ruleset laws = (needs, filling-first, filling-more, rows-next, rows-filled)
+ruleset laws = (needs, filling-first, filling-more, too-short, count-fits, coefficients-fit, length-fits, rows-next, rows-filled)
 
 abbrev Inv-loop : tie.InvT-loop
 Inv-loop body rows places grid₀ row₀ grid row = Filling 5 (rowsFrom body) grid row
@@ -32,6 +33,18 @@ cast-places c = search laws
 add-places : tie.Need-add-places Inv-loop μ-loop
 add-places c = search laws
 
+mul-if1 : tie.Need-mul-if1 Inv-loop μ-loop
+mul-if1 c = count-fits _ _ (omega arith) (omega arith)
+
+mul-if1-2 : tie.Need-mul-if1-2 Inv-loop μ-loop
+mul-if1-2 c = coefficients-fit _ _ (omega arith) (omega arith)
+
+add-if1 : tie.Need-add-if1 Inv-loop μ-loop
+add-if1 c = length-fits _ _ (omega arith) (omega arith)
+
+returns : tie.Need-returns Inv-loop μ-loop
+returns c = search laws
+
 loop-holds : tie.Need-loop-holds Inv-loop μ-loop
 loop-holds c = search laws
 
@@ -53,8 +66,8 @@ loop-less c = search laws
 loop-again : tie.Need-loop-again Inv-loop μ-loop
 loop-again c = search laws
 
-returns : tie.Need-returns Inv-loop μ-loop
-returns c = search laws
+returns-2 : tie.Need-returns-2 Inv-loop μ-loop
+returns-2 c = search laws
 
 pub read-grid-spec : {M : Type 1} → statement M
 read-grid-spec =
@@ -68,6 +81,10 @@ read-grid-spec =
     number1-requires-2
     cast-places
     add-places
+    mul-if1
+    mul-if1-2
+    add-if1
+    returns
     loop-holds
     read-row-requires
     mul-grid
@@ -75,4 +92,4 @@ read-grid-spec =
     add-row
     loop-less
     loop-again
-    returns)
+    returns-2)

@@ -1,11 +1,11 @@
 use native.Mathlib.Omega.{arith}
 use borrow.Author.Needs.{needs}
 use Rattle.bodies.specs.TestsLaws.{read-as}
-use Rattle.bodies.specs.GridLaws.{row-start-small, absent-row, absent-place, present-place}
+use Rattle.bodies.specs.GridLaws.{row-start-small, absent-row, absent-place, present-place, place-there}
 use Rattle.bodies.proofs.sets.read_place.Statement.{statement}
 use Rattle.bodies.proofs.sets.read_place.Tie as tie
 
-ruleset laws = (needs, absent-row, absent-place, present-place, read-as)
+ruleset laws = (needs, absent-row, absent-place, present-place, place-there, read-as)
 
 returns : tie.Need-returns
 returns c = search laws
@@ -13,20 +13,20 @@ returns c = search laws
 returns-2 : tie.Need-returns-2
 returns-2 c = search laws
 
-mul-signed8 : tie.Need-mul-signed8
-mul-signed8 c = let small = row-start-small _ _ _ _ 0 (c .before .before .before .pre .0) in omega arith
+mul-coefficient : tie.Need-mul-coefficient
+mul-coefficient c = let small = row-start-small _ _ _ _ 0 (c .before .before .before .pre .0) in omega arith
 
-add-signed8 : tie.Need-add-signed8
-add-signed8 c = let small = row-start-small _ _ _ _ 0 (c .before .before .before .pre .0) in omega arith
+add-coefficient : tie.Need-add-coefficient
+add-coefficient c = let small = row-start-small _ _ _ _ 0 (c .before .before .before .pre .0) in omega arith
 
-mul-signed8-2 : tie.Need-mul-signed8-2
-mul-signed8-2 c = let small = row-start-small _ _ _ _ 0 (c .before .before .before .pre .0) in omega arith
+mul-coefficient-2 : tie.Need-mul-coefficient-2
+mul-coefficient-2 c = let small = row-start-small _ _ _ _ 0 (c .before .before .before .pre .0) in omega arith
 
-add-signed8-2 : tie.Need-add-signed8-2
-add-signed8-2 c = let small = row-start-small _ _ _ _ 0 (c .before .before .before .pre .0) in omega arith
+add-coefficient-2 : tie.Need-add-coefficient-2
+add-coefficient-2 c = let small = row-start-small _ _ _ _ 0 (c .before .before .before .pre .0) in omega arith
 
-signed8-requires : tie.Need-signed8-requires
-signed8-requires c κs = search laws
+coefficient-requires : tie.Need-coefficient-requires
+coefficient-requires c κs = search laws
 
 returns-3 : tie.Need-returns-3
 returns-3 c = search laws
@@ -37,9 +37,9 @@ read-place-spec =
     (tie.spec
     returns
     returns-2
-    mul-signed8
-    add-signed8
-    mul-signed8-2
-    add-signed8-2
-    signed8-requires
+    mul-coefficient
+    add-coefficient
+    mul-coefficient-2
+    add-coefficient-2
+    coefficient-requires
     returns-3)
