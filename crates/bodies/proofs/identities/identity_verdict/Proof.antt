@@ -6,7 +6,7 @@ use Rattle.bodies.specs.TestsLaws.{equal, unequal, outside-told, read-as
 use Rattle.bodies.proofs.identities.identity_verdict.Statement.{statement}
 use Rattle.bodies.proofs.identities.identity_verdict.Tie as tie
 
-ruleset laws = (needs, judged, equal, unequal, outside-told, read-as, above-told, days-of, past-right, stop-at-wrong, all-right)
+ruleset laws = (judged, equal, unequal, outside-told, read-as, above-told, days-of, past-right, stop-at-wrong, all-right)
 
 refused-requires : tie.Need-refused-requires
 refused-requires c κs = search needs

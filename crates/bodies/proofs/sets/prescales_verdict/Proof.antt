@@ -5,7 +5,7 @@ use Rattle.bodies.specs.SetLaws.{multiplier-told, offset-told, coefficie
 use Rattle.bodies.proofs.sets.prescales_verdict.Statement.{statement}
 use Rattle.bodies.proofs.sets.prescales_verdict.Tie as tie
 
-ruleset laws = (needs, judged, multiplier-told, offset-told, coefficients-judged, past-right, stop-at-wrong)
+ruleset laws = (judged, multiplier-told, offset-told, coefficients-judged, past-right, stop-at-wrong)
 
 number4-requires : tie.Need-number4-requires
 number4-requires c κs = search needs

@@ -6,7 +6,7 @@ use Rattle.bodies.specs.SetLaws.{length-told, other-length-told, ordered
 use Rattle.bodies.proofs.sets.set_verdict.Statement.{statement}
 use Rattle.bodies.proofs.sets.set_verdict.Tie as tie
 
-ruleset laws = (needs, judged, same, other, at-most, more, length-told, other-length-told, past-right, stop-at-wrong)
+ruleset laws = (judged, same, other, at-most, more, length-told, other-length-told, past-right, stop-at-wrong)
 
 number1-requires : tie.Need-number1-requires
 number1-requires c κs = search needs

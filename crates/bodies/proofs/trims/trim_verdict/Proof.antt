@@ -5,7 +5,7 @@ use Rattle.bodies.specs.TestsLaws.{equal, unequal, same, other, outside-
 use Rattle.bodies.proofs.trims.trim_verdict.Statement.{statement}
 use Rattle.bodies.proofs.trims.trim_verdict.Tie as tie
 
-ruleset laws = (needs, judged, equal, unequal, same, other, outside-told, beyond-told, read-as, past-right, stop-at-wrong, all-right)
+ruleset laws = (judged, equal, unequal, same, other, outside-told, beyond-told, read-as, past-right, stop-at-wrong, all-right)
 
 refused-requires : tie.Need-refused-requires
 refused-requires c κs = search needs
