@@ -90,6 +90,13 @@ module _ (d : ℕ) (p : 0 < d) (n : ℤ) where
       split (natAbs n / d) (natAbs (rounded n d)) (λ k. k)
       (λ (k : natAbs (rounded n d) < natAbs n / d). absurd (omega (arith, mul-le-mul-right d k, suc-mul (natAbs (rounded n d)) d)))
 
+pub rounded-nothing : (d : ℕ) → 0 < d → rounded (pos 0) d ≡ pos 0
+rounded-nothing d p = none (rounded (pos 0) d) (rounded-high d p (pos 0) 0 (omega arith))
+  where
+    none : (z : ℤ) → natAbs z ≤ 0 → z ≡ pos 0
+    none (pos a) h = ap pos (omega arith)
+    none (negsuc a) h = absurd (omega arith)
+
 -- ---- how the code comes to it: naturals by the rest of the division
 
 module _ (n d : ℕ) where

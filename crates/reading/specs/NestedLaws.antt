@@ -5,7 +5,7 @@ use mathlib.Core.Bool.{Bool, true, false}
 use Prim.Native.Nat.{ℕ, _+_, _^_}
 use native.Mathlib.Omega.{arith}
 use lib.Dec.{leb}
-use lib.IntN.{ℤ, pos, natAbs, _+ℤ_, _*ℤ_, +ℤ-idr, zero-*ℤ}
+use lib.IntN.{ℤ, pos, natAbs, _+ℤ_, _*ℤ_, +ℤ-idr}
 use Rattle.numbers.specs.Rounded.{rounded}
 use Rattle.refusals.specs.declared.Refusal.{Refusal}
 use Rattle.refusals.specs.Refusals.{refusal, ask}
@@ -17,6 +17,7 @@ use Rattle.reading.specs.Value.{given, withValue, within}
 use Rattle.reading.specs.ValueLaws.{within-says}
 use Rattle.reading.specs.Frequency.{prescaledOf}
 use Rattle.reading.specs.Polynomial.{stepOf, rowSum, rowStep, gridSum, gridResult, resultFromXp, setResult}
+use Rattle.reading.specs.PolynomialLaws.{nothing-turned}
 use Rattle.reading.specs.Nested.{times, nested, manualRow, manualSum}
 
 -- ---- what a value that is known says of the one before it
@@ -64,8 +65,8 @@ grid-is kind xp xt (row ∷ rows) z e =
 -- ---- five coefficients: the last one's step gives itself
 
 nothing-times : (x : ℤ) → times x (pos 0) ≡ pos 0
-unfolding times rounded
-nothing-times x = rw (zero-*ℤ x)
+unfolding times
+nothing-times x = nothing-turned x
 
 summed-five : (x c0 c1 c2 c3 c4 : ℤ) → summed x (c0 ∷ c1 ∷ c2 ∷ c3 ∷ c4 ∷ []) ≡ nested x c0 c1 c2 c3 c4
 unfolding summed nested

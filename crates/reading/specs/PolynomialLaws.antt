@@ -1,23 +1,27 @@
 -- Laws of the running sums: one step, and a row or a grid from a place on.
-use mathlib.Core.Path.{_≡_}
+use mathlib.Core.Path.{_≡_, refl, sym, ap, _∙_}
+use mathlib.Core.Bool.{Bool, true}
 use mathlib.Core.List.{List, [], _∷_}
-use Prim.Native.Nat.{ℕ, zero, suc, _*_, _^_, _≤_, _<_}
+use Prim.Native.Nat.{ℕ, zero, suc, _-_, _*_, _^_, _≤_, _<_}
+use native.Mathlib.Nat.{le-refl}
 use native.Mathlib.Omega.{arith}
 use lib.Dec.{lit<}
-use lib.IntN.{ℤ, pos, natAbs, _+ℤ_, _*ℤ_}
-use lib.ListN.{length, drop, getD, drop-of-length-le}
+use lib.IntN.{ℤ, pos, natAbs, _+ℤ_, _*ℤ_, zero-*ℤ}
+use lib.Signed.{mag}
+use lib.ListN.{length, drop, getD, replicate, drop-of-length-le}
 use lib.Seq.{drop-cons}
 use mir.Syntax.{w64}
-use mir.Val.{SFits}
+use mir.Val.{SFits, toZ, ofZ}
+use mir.Facts.{toZ-ofZ}
 use Rattle.laws.specs.Magnitude.{magnitude-product-le, magnitude-sum, magnitude-sum-low}
 use Rattle.laws.specs.Pattern.{fits-64}
 use Rattle.numbers.specs.Rounded.{rounded}
-use Rattle.numbers.specs.RoundedLaws.{rounded-high}
+use Rattle.numbers.specs.RoundedLaws.{rounded-high, rounded-nothing}
 use Rattle.refusals.specs.declared.Refusal.{Refusal}
 use Rattle.refusals.specs.Refusals.{refusal}
 use Rattle.reading.specs.declared.value.Value.{Value}
 use Rattle.reading.specs.declared.value.Value.the-variants.{Known, Refused}
-use Rattle.reading.specs.Value.{withValue}
+use Rattle.reading.specs.Value.{withValue, within}
 use Rattle.reading.specs.ValueLaws.{within-beyond, within-says}
 use Rattle.reading.specs.Polynomial.{stepOf, rowSum, rowStep, gridSum}
 
@@ -91,3 +95,47 @@ module _ (kind : ℕ) (xp xt : ℤ) where
   grid-stops grid zero r e = e
   grid-stops [] (suc i) r e = e
   grid-stops (row ∷ grid) (suc i) r e = rw (grid-stops grid i r e)
+
+-- ---- a row of zeros under no sum adds nothing
+
+pub nothing-turned : (x : ℤ) → rounded (pos 0 *ℤ x) (2 ^ 24) ≡ pos 0
+nothing-turned x = rw (zero-*ℤ x) (rounded-nothing (2 ^ 24) (lit< tt))
+
+step-of-nothing : (kind : ℕ) (x : ℤ) → stepOf kind x (pos 0) (pos 0) ≡ Known (pos 0)
+unfolding stepOf within
+step-of-nothing kind x = rw (nothing-turned x)
+
+row-of-zeros : (kind : ℕ) (x : ℤ) (n : ℕ) → rowSum kind x (replicate n (pos 0)) ≡ Known (pos 0)
+unfolding rowSum
+row-of-zeros kind x zero = refl
+row-of-zeros kind x (suc n) = rw (row-of-zeros kind x n) (step-of-nothing kind x)
+
+-- 0 is known by its bits
+no-bits : (z : ℤ) → SFits w64 z → ofZ w64 z ≡ 0 → z ≡ pos 0
+no-bits z f e = sym (toZ-ofZ f) ∙ ap (toZ w64) e
+
+pub row-adds-nothing : (kind : ℕ) (xp xt : ℤ) (row : List ℤ) (sum : ℤ) (b : Bool) → b ≡ true → (b ≡ true → row ≡ replicate 5 (pos 0)) → ofZ w64 sum ≡ 0 → SFits w64 sum
+    → Known (pos 0) ≡ rowStep kind xp xt row sum
+unfolding rowStep
+row-adds-nothing kind xp xt row sum b h zeros e f = rw (zeros h, no-bits sum f e, row-of-zeros kind xt 5) (sym (step-of-nothing kind xp))
+
+-- what the loop that looks for them keeps: zeros from the i-th place on
+pub record Zeros (row : List ℤ) (i : ℕ) : Type 0 where
+  pub within-row : i ≤ 5
+  pub zeros : drop i row ≡ replicate (5 - i) (pos 0)
+
+module _ (row : List ℤ) (five : length row ≡ 5) where
+  pub zeros-first : Zeros row 5
+  zeros-first = let l : length row ≤ 5 = omega arith in record { within-row = le-refl 5; zeros = drop-of-length-le row l }
+
+  pub zeros-more : (i : ℕ) → Zeros row i → 0 < i → ofZ w64 (getD row (i - 1) (pos 0)) ≡ 0 → mag (getD row (i - 1) (pos 0)) < 2 ^ 63 → Zeros row (i - 1)
+  zeros-more i k h e f =
+      let next : suc (i - 1) ≡ i = omega arith in
+      let left : 5 - (i - 1) ≡ suc (5 - i) = omega (arith, k .within-row) in
+      record {
+        within-row = omega (arith, k .within-row);
+        zeros = rw (drop-cons row (i - 1) (pos 0) (omega (arith, k .within-row)), next, k .zeros, no-bits (getD row (i - 1) (pos 0)) (record { sfits = f }) e, left);
+      }
+
+  pub zeros-all : (i : ℕ) → Zeros row i → i ≤ 0 → row ≡ replicate 5 (pos 0)
+  zeros-all i k h = let e : i ≡ 0 = omega arith in rw e at (k .zeros)

@@ -5,8 +5,10 @@ use crate::value::refused;
 use bodies::Prescale;
 use bodies::Set;
 ghost use mathlib.Core.Path.{_≡_};
+ghost use mathlib.Core.Bool.{true};
 ghost use Prim.Native.Nat.{_≤_, _^_};
-ghost use lib.IntN.{natAbs};
+ghost use lib.IntN.{pos, natAbs};
+ghost use lib.ListN.{replicate};
 ghost use Rattle.reading.specs.Polynomial.{stepOf, rowSum, rowStep, gridSum, gridResult, resultFromXp, setResult};
 
 // One step of a running sum.
@@ -42,11 +44,30 @@ fn row_sum(kind: u64, x: i64, row: [i64; 5]) -> Value
     Value::Known(sum)
 }
 
+fn is_zero(row: [i64; 5]) -> bool
+    ensures { λ r. ⌜ (r ≡ true → row ≡ replicate 5 (pos 0)) ⌝ }
+{
+    let mut i: usize = 5;
+    while 0 < i {
+        i -= 1;
+        if row[i] != 0 {
+            return false;
+        }
+    }
+    true
+}
+
 // One step of the rows' running sum: a row's own sum is the coefficient.
 fn row_step(kind: u64, xp: i64, xt: i64, row: [i64; 5], sum: i64) -> Value
     requires { ⌜ (natAbs xp ≤ 2 ^ 24) × (natAbs xt ≤ 2 ^ 24) × (natAbs sum ≤ 500000000000) ⌝ }
     ensures { λ r. ⌜ r ≡ rowStep kind xp xt row sum ⌝ }
 {
+    // an absent row under absent rows adds nothing
+    if sum == 0 {
+        if is_zero(row) {
+            return Value::Known(0);
+        }
+    }
     match row_sum(kind, xt, row) {
         Value::Known(coefficient) => step(kind, xp, coefficient, sum),
         Value::Refused(refusal) => Value::Refused(refusal),
