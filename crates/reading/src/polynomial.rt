@@ -47,10 +47,10 @@ fn row_sum(kind: u64, x: i64, row: [i64; 5]) -> Value
 fn is_zero(row: [i64; 5]) -> bool
     ensures { λ r. ⌜ (r ≡ true → row ≡ replicate 5 (pos 0)) ⌝ }
 {
-    let mut i: usize = 5;
-    while 0 < i {
-        i -= 1;
-        if row[i] != 0 {
+    let mut place: usize = 5;
+    while 0 < place {
+        place -= 1;
+        if row[place] != 0 {
             return false;
         }
     }

@@ -6,16 +6,16 @@ use Rattle.reading.proofs.polynomial.is_zero.Tie as tie
 ruleset laws = (needs, zeros-first, zeros-more, zeros-all)
 
 abbrev Inv-loop : tie.InvT-loop
-Inv-loop row i₀ i = Zeros row i
+Inv-loop row place₀ place = Zeros row place
 
 abbrev μ-loop : tie.MeasureT-loop
-μ-loop row i₀ i = i
+μ-loop row place₀ place = place
 
 loop-holds : tie.Need-loop-holds Inv-loop μ-loop
 loop-holds c = search laws
 
-sub-i : tie.Need-sub-i Inv-loop μ-loop
-sub-i c = search laws
+sub-place : tie.Need-sub-place Inv-loop μ-loop
+sub-place c = search laws
 
 mul-if1 : tie.Need-mul-if1 Inv-loop μ-loop
 mul-if1 c = search laws
@@ -42,7 +42,7 @@ is-zero-spec =
     Inv-loop
     μ-loop
     loop-holds
-    sub-i
+    sub-place
     mul-if1
     array-copy-out-if1
     returns
