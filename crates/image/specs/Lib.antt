@@ -6,4 +6,5 @@ pub mod LayoutLaws
 pub mod RoundTrip
 pub mod Back
 pub mod FindLaws
+pub mod OrderLaws
 pub mod Examples

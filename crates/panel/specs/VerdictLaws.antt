@@ -4,26 +4,30 @@ use mathlib.Core.Bool.{Bool, true, false, not}
 use mathlib.Core.List.{List}
 use Prim.Native.Nat.{ℕ, _+_, _-_, _≤_, _<_}
 use native.Mathlib.Nat.{sub-zero}
-use borrow.Author.Tests.{eq-eqb, ne-eqb, not-true, not-false}
-use lib.ListN.{take, drop}
+use native.Mathlib.Omega.{arith}
+use borrow.Author.Tests.{not-true, not-false}
 use denote.Ref.{RefT, now}
+use Rattle.laws.specs.Cases.{split}
+use Rattle.laws.specs.Loops.{one-left, none-left}
 use Rattle.numbers.specs.Slices.{IsPart}
+use Rattle.refusals.specs.declared.Refusal.{Refusal}
 use Rattle.refusals.specs.declared.Verdict.{Verdict}
 use Rattle.refusals.specs.declared.Verdict.the-variants.{Accepted, Refused}
 use Rattle.refusals.specs.Refusals.{refusal}
-use Rattle.image.specs.Layout.{lineCount, kindAt}
-use Rattle.laws.specs.Loops.{one-left, none-left}
-use Rattle.image.specs.Sections.{sectionsFrom, sections}
+use Rattle.image.specs.Layout.{lineCount, kindAt, offsetAt, lengthAt, bodyAt, layoutVerdict}
+use Rattle.image.specs.Sections.{Section, sectionsFrom, sections}
+use Rattle.image.specs.OrderLaws.{sections-ascend}
 use Rattle.finder.specs.declared.Place.{Place}
 use Rattle.finder.specs.declared.Place.the-variants.{At, Nowhere}
-use Rattle.finder.specs.Places.{statedPlace, startOf, lengthOf}
+use Rattle.finder.specs.Places.{statedPlace}
 use Rattle.finder.specs.PlacesLaws.{body-said}
 use Rattle.bodies.specs.Identity.{identityVerdict}
 use Rattle.bodies.specs.Set.{setVerdict}
 use Rattle.bodies.specs.Trim.{trimVerdict}
 use Rattle.bodies.specs.Note.{noteVerdict}
 use Rattle.panel.specs.Levels.{isLevel, knows, mayPass}
-use Rattle.panel.specs.Verdict.{levelVerdict, unknownVerdict, presentVerdict, kindVerdict, bodyVerdict}
+use Rattle.panel.specs.Verdict.{levelVerdict, unknownVerdict, presentVerdict, kindVerdict, bodiesVerdict}
+use Rattle.panel.specs.BodiesLaws.{lineVerdict, sectionBySection, not-judged, bodies-in-order}
 
 pub level-passes : (level : ℕ) (b : Bool) → b ≡ isLevel level → b ≡ true → Accepted ≡ levelVerdict level
 level-passes level b e t = rw (← e, t)
@@ -31,19 +35,24 @@ level-passes level b e t = rw (← e, t)
 pub level-refused : (level : ℕ) (b : Bool) {r : Verdict} → r ≡ Refused (refusal 20 0) → b ≡ isLevel level → b ≡ false → r ≡ levelVerdict level
 level-refused level b f e t = rw (← e, t) f
 
--- ---- 9: i lines are passed
+pub layout-good : (image : List ℕ) (v : Verdict) → v ≡ layoutVerdict image → v ≡ Accepted → layoutVerdict image ≡ Accepted
+layout-good image v e a = sym e ∙ a
 
-pub record Passing (image : List ℕ) (level count i : ℕ) : Type 0 where
-  pub rest : unknownVerdict level (sectionsFrom image (count - i) i) ≡ unknownVerdict level (sections image)
+-- ---- a walk over the lines: i of them are passed
+
+pub record Passing (verdict : List Section → Verdict) (image : List ℕ) (count i : ℕ) : Type 0 where
+  pub rest : verdict (sectionsFrom image (count - i) i) ≡ verdict (sections image)
   pub few : count < 256
 
-pub passing-first : (image : List ℕ) (level count : ℕ) → count ≡ lineCount image → count < 256 → Passing image level count 0
+pub passing-first : (verdict : List Section → Verdict) (image : List ℕ) (count : ℕ) → count ≡ lineCount image → count < 256 → Passing verdict image count 0
 unfolding sections
-passing-first image level count c h = record { rest = rw (sub-zero count, c); few = h }
+passing-first verdict image count c h = record { rest = rw (sub-zero count, c); few = h }
 
-module _ (image : List ℕ) (level count i : ℕ) (p : Passing image level count i) where
+-- ---- 9
+
+module _ (image : List ℕ) (level count i : ℕ) (p : Passing (unknownVerdict level) image count i) where
   module _ (kind : ℕ) (more : i < count) (k : kind ≡ kindAt image i) (b : Bool) (e : b ≡ mayPass level kind) where
-    pub passing-more : not b ≡ false → Passing image level count (i + 1)
+    pub passing-more : not b ≡ false → Passing (unknownVerdict level) image count (i + 1)
     unfolding unknownVerdict sectionsFrom
     passing-more t =
         let passed : mayPass level (kindAt image i) ≡ true = rw k at (sym e ∙ not-false b t) in
@@ -73,45 +82,51 @@ module _ (image : List ℕ) (kind : ℕ) (place : Place) (p : place ≡ statedPl
 module _ (kind : ℕ) (body : List ℕ) {r : Verdict} where
   pub as-identity : r ≡ identityVerdict body → kind ≡ 1 → r ≡ kindVerdict kind body
   unfolding kindVerdict
-  as-identity e k = rw (eq-eqb kind 1 k) e
+  as-identity e k = rw k e
 
-  module _ (n : kind ≡ 1 → ⊥) where
-    pub as-pressure : r ≡ setVerdict 12 body → kind ≡ 2 → r ≡ kindVerdict kind body
-    unfolding kindVerdict
-    as-pressure e k = rw (ne-eqb kind 1 n, eq-eqb kind 2 k) e
+  pub as-set : r ≡ setVerdict (kind + 10) body → (kind ≡ 1 → ⊥) → 1 ≤ kind → kind < 4 → r ≡ kindVerdict kind body
+  unfolding kindVerdict
+  as-set e one low high =
+      split kind 2
+      (λ (h : kind ≤ 2). let k : kind ≡ 2 = omega arith in rw k (rw k at e))
+      (λ (h : 2 < kind). let k : kind ≡ 3 = omega arith in rw k (rw k at e))
 
-    module _ (m : kind ≡ 2 → ⊥) where
-      pub as-temperature : r ≡ setVerdict 13 body → kind ≡ 3 → r ≡ kindVerdict kind body
-      unfolding kindVerdict
-      as-temperature e k = rw (ne-eqb kind 1 n, ne-eqb kind 2 m, eq-eqb kind 3 k) e
+  pub as-trim : r ≡ trimVerdict body → kind ≡ 4 → r ≡ kindVerdict kind body
+  unfolding kindVerdict
+  as-trim e k = rw k e
 
-      module _ (l : kind ≡ 3 → ⊥) where
-        pub as-trim : r ≡ trimVerdict body → kind ≡ 4 → r ≡ kindVerdict kind body
-        unfolding kindVerdict
-        as-trim e k = rw (ne-eqb kind 1 n, ne-eqb kind 2 m, ne-eqb kind 3 l, eq-eqb kind 4 k) e
+  pub as-note : r ≡ noteVerdict body → kind ≡ 129 → r ≡ kindVerdict kind body
+  unfolding kindVerdict
+  as-note e k = rw k e
 
-        module _ (o : kind ≡ 4 → ⊥) where
-          pub as-note : r ≡ noteVerdict body → kind ≡ 129 → r ≡ kindVerdict kind body
-          unfolding kindVerdict
-          as-note e k = rw (ne-eqb kind 1 n, ne-eqb kind 2 m, ne-eqb kind 3 l, ne-eqb kind 4 o, eq-eqb kind 129 k) e
+module _ (kind : ℕ) (body : List ℕ) where
+  pub as-lower : kind < 1 → Accepted ≡ kindVerdict kind body
+  unfolding kindVerdict
+  as-lower h = let k : kind ≡ 0 = omega arith in rw k
 
-          pub as-other : r ≡ Accepted → (kind ≡ 129 → ⊥) → r ≡ kindVerdict kind body
-          unfolding kindVerdict
-          as-other e k = rw (ne-eqb kind 1 n, ne-eqb kind 2 m, ne-eqb kind 3 l, ne-eqb kind 4 o, ne-eqb kind 129 k) e
+  pub as-higher : 4 ≤ kind → (kind ≡ 4 → ⊥) → (kind ≡ 129 → ⊥) → Accepted ≡ kindVerdict kind body
+  as-higher h four note = sym (not-judged kind body ((λ e. omega arith), ((λ e. omega arith), ((λ e. omega arith), (four, (note, tt))))))
 
-module _ (image : RefT (List ℕ)) (level kind : ℕ) (b : Bool) (e : b ≡ knows level kind) where
-  pub kind-not-known : not b ≡ true → Accepted ≡ bodyVerdict level kind (sections (now image))
-  unfolding bodyVerdict
-  kind-not-known t = rw (← e, not-true b t)
+module _ (image : RefT (List ℕ)) (level i kind : ℕ) (k : kind ≡ kindAt (now image) i) (b : Bool) (e : b ≡ knows level kind) where
+  pub kind-not-known : not b ≡ true → Accepted ≡ lineVerdict level (now image) i
+  kind-not-known t = rw (← k, ← e, not-true b t)
 
-  module _ (t : not b ≡ false) (place : Place) (p : place ≡ statedPlace (now image) kind) where
-    pub body-not-there : place ≡ Nowhere → Accepted ≡ bodyVerdict level kind (sections (now image))
-    unfolding bodyVerdict
-    body-not-there n = rw (← e, not-false b t, body-said (now image) kind, ← p, n)
+  pub body-judged : not b ≡ false → (offset size : ℕ) (part : RefT (List ℕ)) (r : Verdict) → offset ≡ offsetAt (now image) i → size ≡ lengthAt (now image) i
+      → IsPart image part offset size → r ≡ kindVerdict kind (now part) → r ≡ lineVerdict level (now image) i
+  body-judged t offset size part r o l h v =
+      let holds : now part ≡ bodyAt (now image) i = rw (o, l) at (h .holds) in
+      rw (← k, ← e, not-false b t, ← holds) v
 
-    pub body-judged : (offset size : ℕ) (part : RefT (List ℕ)) (r : Verdict) → place ≡ At offset size → IsPart image part (startOf place) (lengthOf place)
-        → r ≡ kindVerdict kind (now part) → r ≡ bodyVerdict level kind (sections (now image))
-    unfolding bodyVerdict
-    body-judged offset size part r a h v =
-        let holds : now part ≡ take size (drop offset (now image)) = rw a at (h .holds) in
-        rw (← e, not-false b t, body-said (now image) kind, ← p, a, ← holds) v
+module _ (image : List ℕ) (level count i : ℕ) (p : Passing (sectionBySection level) image count i) where
+  module _ (more : i < count) (v : Verdict) (e : v ≡ lineVerdict level image i) where
+    pub bodies-more : v ≡ Accepted → Passing (sectionBySection level) image count (i + 1)
+    unfolding sectionBySection sectionsFrom
+    bodies-more a = record { rest = rw (one-left count i more, ← e, a) at (p .rest); few = p .few }
+
+    pub body-refused : layoutVerdict image ≡ Accepted → (r : Refusal) → v ≡ Refused r → v ≡ bodiesVerdict level (sections image)
+    unfolding sectionBySection sectionsFrom
+    body-refused good r a = rw (bodies-in-order level (sections image) (sections-ascend image good), a) (rw (one-left count i more, ← e, a) at (p .rest))
+
+  pub bodies-passed : layoutVerdict image ≡ Accepted → count ≤ i → Accepted ≡ bodiesVerdict level (sections image)
+  unfolding sectionBySection sectionsFrom
+  bodies-passed good end = rw (bodies-in-order level (sections image) (sections-ascend image good)) (rw (none-left count i end) at (p .rest))

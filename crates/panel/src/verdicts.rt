@@ -3,9 +3,12 @@ use finder::Place;
 use refusals::Refusal;
 use refusals::Verdict;
 ghost use mathlib.Core.Path.{_≡_};
+ghost use Prim.Native.Nat.{_<_};
 ghost use Rattle.refusals.specs.Refusals.{refusal};
+ghost use Rattle.image.specs.Layout.{layoutVerdict};
 ghost use Rattle.image.specs.Sections.{sections};
-ghost use Rattle.panel.specs.Verdict.{levelVerdict, unknownVerdict, presentVerdict, missingVerdict, kindVerdict, bodyVerdict, bodiesVerdict, sectionsVerdict, verdictOf};
+ghost use Rattle.panel.specs.BodiesLaws.{lineVerdict};
+ghost use Rattle.panel.specs.Verdict.{levelVerdict, unknownVerdict, presentVerdict, missingVerdict, kindVerdict, bodiesVerdict, sectionsVerdict, verdictOf};
 
 fn refused(number: u32, detail: u64) -> Verdict
     ensures { λ r. ⌜ r ≡ Verdict.Refused (refusal number detail) ⌝ }
@@ -68,63 +71,50 @@ fn missing_verdict(image: &[u8]) -> Verdict
 fn kind_verdict(kind: u32, body: &[u8]) -> Verdict
     ensures { λ r. ⌜ r ≡ kindVerdict kind (now (body .entry)) ⌝ }
 {
-    if kind == 1 {
-        return bodies::identity_verdict(body);
+    match kind {
+        1 => bodies::identity_verdict(body),
+        2 | 3 => bodies::set_verdict(body, kind + 10),
+        4 => bodies::trim_verdict(body),
+        129 => bodies::note_verdict(body),
+        _ => Verdict::Accepted,
     }
-    if kind == 2 {
-        return bodies::set_verdict(body, 12);
+}
+
+// The body of line i, as the part of the image where it stands, if the level knows its kind.
+fn line_verdict(image: &[u8], level: u32, i: usize) -> Verdict
+    requires { ⌜ i < 256 ⌝ }
+    ensures { λ r. ⌜ r ≡ lineVerdict level (now (image .entry)) i ⌝ }
+{
+    let place = 2 + 8 * i;
+    let kind = numbers::fields::number1(image, place) as u32;
+    if !levels::knows(level, kind) {
+        return Verdict::Accepted;
     }
-    if kind == 3 {
-        return bodies::set_verdict(body, 13);
-    }
-    if kind == 4 {
-        return bodies::trim_verdict(body);
-    }
-    if kind == 129 {
-        return bodies::note_verdict(body);
+    let offset = numbers::fields::number2(image, place + 2) as usize;
+    let length = numbers::fields::number2(image, place + 4) as usize;
+    kind_verdict(kind, numbers::slices::part(image, offset, length))
+}
+
+// Refusals 11, 12, 13, 15, 16, in one walk over the contents lines: their kinds rise as these numbers do.
+fn bodies_verdict(image: &[u8], level: u32) -> Verdict
+    requires { ⌜ layoutVerdict (now image) ≡ Verdict.Accepted ⌝ }
+    ensures { λ r. ⌜ r ≡ bodiesVerdict level (sections (now (image .entry))) ⌝ }
+{
+    let count = numbers::fields::number1(image, 1) as usize;
+    let mut i = 0;
+    while i < count {
+        let judged = line_verdict(image, level, i);
+        let Verdict::Accepted = judged else {
+            return judged;
+        };
+        i += 1;
     }
     Verdict::Accepted
 }
 
-// The body of a kind, as the part of the image where it stands, if it is there and the level knows the kind.
-fn body_verdict(image: &[u8], level: u32, kind: u32) -> Verdict
-    ensures { λ r. ⌜ r ≡ bodyVerdict level kind (sections (now (image .entry))) ⌝ }
-{
-    if !levels::knows(level, kind) {
-        return Verdict::Accepted;
-    }
-    let place = finder::stated(image, kind);
-    match place {
-        Place::At(_, _) => kind_verdict(kind, finder::part_at(image, place)),
-        Place::Nowhere => Verdict::Accepted,
-    }
-}
-
-// Refusals 11, 12, 13, 15, 16.
-fn bodies_verdict(image: &[u8], level: u32) -> Verdict
-    ensures { λ r. ⌜ r ≡ bodiesVerdict level (sections (now (image .entry))) ⌝ }
-{
-    let identity = body_verdict(image, level, 1);
-    let Verdict::Accepted = identity else {
-        return identity;
-    };
-    let pressure = body_verdict(image, level, 2);
-    let Verdict::Accepted = pressure else {
-        return pressure;
-    };
-    let temperature = body_verdict(image, level, 3);
-    let Verdict::Accepted = temperature else {
-        return temperature;
-    };
-    let trim = body_verdict(image, level, 4);
-    let Verdict::Accepted = trim else {
-        return trim;
-    };
-    body_verdict(image, level, 129)
-}
-
 // An image whose layout is good.
 fn sections_verdict(image: &[u8], level: u32) -> Verdict
+    requires { ⌜ layoutVerdict (now image) ≡ Verdict.Accepted ⌝ }
     ensures { λ r. ⌜ r ≡ sectionsVerdict level (sections (now (image .entry))) ⌝ }
 {
     let unknown = unknown_verdict(image, level);

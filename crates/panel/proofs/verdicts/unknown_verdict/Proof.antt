@@ -1,5 +1,6 @@
 use Prim.Native.Nat.{_-_}
 use borrow.Author.Needs.{needs}
+use Rattle.panel.specs.Verdict.{unknownVerdict}
 use Rattle.panel.specs.VerdictLaws.{Passing, passing-first, passing-more, unknown-here, none-unknown}
 use Rattle.panel.proofs.verdicts.unknown_verdict.Statement.{statement}
 use Rattle.panel.proofs.verdicts.unknown_verdict.Tie as tie
@@ -7,7 +8,7 @@ use Rattle.panel.proofs.verdicts.unknown_verdict.Tie as tie
 ruleset laws = (needs, passing-first, passing-more, unknown-here, none-unknown)
 
 abbrev Inv-loop : tie.InvT-loop
-Inv-loop image level count i₀ i = Passing image level count i
+Inv-loop image level count i₀ i = Passing (unknownVerdict level) image count i
 
 abbrev μ-loop : tie.MeasureT-loop
 μ-loop image level count i₀ i = count - i

@@ -1,6 +1,7 @@
 use borrow.Author.Needs.{needs}
 use Rattle.refusals.specs.VerdictLaws.{stops-there, goes-on}
 use Rattle.panel.specs.Verdict.{verdictOf}
+use Rattle.panel.specs.VerdictLaws.{layout-good}
 use Rattle.panel.proofs.verdicts.verdict.Statement.{statement}
 use Rattle.panel.proofs.verdicts.verdict.Tie as tie
 
@@ -31,7 +32,7 @@ unfolding verdictOf
 returns-2 c = search (needs, stops-there, goes-on)
 
 sections-verdict-requires : tie.Need-sections-verdict-requires
-sections-verdict-requires c κs = search needs
+sections-verdict-requires c κs = search (needs, layout-good)
 
 returns-3 : tie.Need-returns-3
 unfolding verdictOf
