@@ -80,12 +80,12 @@ fn kind_verdict(kind: u32, body: &[u8]) -> Verdict
     }
 }
 
-// The body of line i, as the part of the image where it stands, if the level knows its kind.
-fn line_verdict(image: &[u8], level: u32, i: usize) -> Verdict
-    requires { ⌜ i < 256 ⌝ }
-    ensures { λ r. ⌜ r ≡ lineVerdict level (now (image .entry)) i ⌝ }
+// The body of a line, as the part of the image where it stands, if the level knows its kind.
+fn line_verdict(image: &[u8], level: u32, line: usize) -> Verdict
+    requires { ⌜ line < 256 ⌝ }
+    ensures { λ r. ⌜ r ≡ lineVerdict level (now (image .entry)) line ⌝ }
 {
-    let place = 2 + 8 * i;
+    let place = 2 + 8 * line;
     let kind = numbers::fields::number1(image, place) as u32;
     if !levels::knows(level, kind) {
         return Verdict::Accepted;
@@ -101,13 +101,13 @@ fn bodies_verdict(image: &[u8], level: u32) -> Verdict
     ensures { λ r. ⌜ r ≡ bodiesVerdict level (sections (now (image .entry))) ⌝ }
 {
     let count = numbers::fields::number1(image, 1) as usize;
-    let mut i = 0;
-    while i < count {
-        let judged = line_verdict(image, level, i);
+    let mut line = 0;
+    while line < count {
+        let judged = line_verdict(image, level, line);
         let Verdict::Accepted = judged else {
             return judged;
         };
-        i += 1;
+        line += 1;
     }
     Verdict::Accepted
 }

@@ -17,6 +17,7 @@ use Rattle.image.specs.RoundTrip.{image-length, image-good, sections-of-image}
 use Rattle.image.specs.Back.{sections-fit}
 use Rattle.image.specs.Find.{bodyOf, found}
 use Rattle.image.specs.FindLaws.{found-good, found-in-image}
+use Rattle.image.specs.OrderLaws.{rising-ascends, sections-ascend}
 use Rattle.builder.specs.Build.{buildImage}
 use Rattle.builder.specs.Lines.{linesOf}
 use Rattle.builder.specs.BuildLaws.{passes, lines-counted, lines-rise, lines-total, sections-again}
@@ -29,7 +30,7 @@ use Rattle.panel.specs.Reading.{sectionsReading, afterVerdict, readingOf}
 use Rattle.promises.specs.Further.{merged, laidAnew, holds, EachKind, LowestLow, Further}
 use Rattle.promises.specs.Lower.{Below, LowestUnknown, NoneUnknown}
 use Rattle.promises.specs.FurtherLaws.{lowest-or-none, merged-fit, body-merged, body-of-merged}
-use Rattle.promises.specs.PanelLaws.{passed, rising-ascends, sections-ascend, unknown-high, held-passes, unknown-named, none-or-lowest, lowest-new, known-stays, bodies-same, missing-same, reading-same}
+use Rattle.promises.specs.PanelLaws.{passed, unknown-high, held-passes, unknown-named, none-or-lowest, lowest-new, known-stays, bodies-same, missing-same, reading-same}
 use Rattle.promises.specs.LevelsLaws.{lower-accepts, lower-names, one-below-two, only-trim}
 
 module _ (level : ℕ) (image : List ℕ) (further : List Section) (f : Further level image further) where

@@ -11,10 +11,11 @@ use Rattle.refusals.specs.declared.Verdict.the-variants.{Accepted, Refused}
 use Rattle.refusals.specs.Refusals.{refusal}
 use Rattle.refusals.specs.VerdictLaws.{first-passed, next-passed}
 use Rattle.image.specs.Sections.{Section, sections}
+use Rattle.image.specs.OrderLaws.{sections-ascend}
 use Rattle.panel.specs.Levels.{knows, mayPass}
 use Rattle.panel.specs.Verdict.{bodyVerdict, bodiesVerdict, sectionsVerdict, verdictOf}
 use Rattle.promises.specs.Lower.{Below, LowestUnknown, NoneUnknown}
-use Rattle.promises.specs.PanelLaws.{passed, unknown-none, unknown-named, sections-ascend}
+use Rattle.promises.specs.PanelLaws.{passed, unknown-none, unknown-named}
 
 module _ (lower higher : ℕ) (below : Below lower higher) where
   -- a body that the lower level judges is judged at the higher one too

@@ -3,18 +3,18 @@ use mathlib.Core.Bool.{Bool, true, false, _||_, or-true}
 use mathlib.Core.List.{List, [], _∷_}
 use mathlib.Core.Logic.{_⊎_, inl, inr, ⊎-map}
 use mathlib.Core.Path.{_≡_, refl, sym, ap, _∙_}
-use Prim.Native.Nat.{ℕ, zero, suc, _+_, _≤_, _<_}
+use Prim.Native.Nat.{ℕ, _≤_, _<_}
 use native.Mathlib.Omega.{arith}
 use borrow.Author.Tests.{eqb-true, eq-eqb, ne-eqb, le-leb, lt-leb, leb-false}
 use lib.Dec.{leb, ltb, eqb}
-use Rattle.laws.specs.Cases.{decide, never}
+use Rattle.laws.specs.Cases.{split, decide, never}
 use Rattle.refusals.specs.declared.Verdict.the-variants.{Accepted, Refused}
 use Rattle.refusals.specs.Refusals.{refusal, ask, andThen}
 use Rattle.refusals.specs.VerdictLaws.{asked, first-passed, next-passed}
-use Rattle.image.specs.Layout.{lineCount, linePlace, kindAt, lengthAt, linesVerdict, layoutVerdict}
-use Rattle.image.specs.LayoutLaws.{line-passed, layout-passed}
-use Rattle.image.specs.Sections.{Section, sectionsFrom, sections, Rising}
+use Rattle.image.specs.Layout.{layoutVerdict}
+use Rattle.image.specs.Sections.{Section, sections}
 use Rattle.image.specs.Find.{bodyOf}
+use Rattle.image.specs.OrderLaws.{Ascending, none-below}
 use Rattle.reading.specs.declared.Counts.{Counts}
 use Rattle.panel.specs.Levels.{isLevel, knows, mayPass}
 use Rattle.panel.specs.Verdict.{levelVerdict, unknownVerdict, missingVerdict, bodyVerdict, bodiesVerdict, sectionsVerdict, verdictOf}
@@ -46,28 +46,6 @@ passed level image e =
       right = next-passed (missingVerdict (sections image)) _ bodies;
     }
 
--- ---- the order of kinds
-
--- kinds strictly rise above `previous`
-abbrev pub Ascending : (previous : ℕ) → List Section → Type 0
-Ascending previous [] = Unit {0}
-Ascending previous (s ∷ ss) = (previous < s .kind) × Ascending (s .kind) ss
-
-pub rising-ascends : (previous : ℕ) (ss : List Section) → Rising previous ss → Ascending previous ss
-rising-ascends previous [] rising = tt
-rising-ascends previous (s ∷ ss) rising = (rising .0, rising-ascends (s .kind) ss (rising .2))
-
-lines-ascend : (image : List ℕ) (left i previous offset : ℕ) → linesVerdict image left i previous offset ≡ Accepted → Ascending previous (sectionsFrom image left i)
-unfolding sectionsFrom
-lines-ascend image zero i previous offset e = tt
-lines-ascend image (suc left) i previous offset e =
-    let p = line-passed image left i previous offset e in
-    (p .right .rises, lines-ascend image left (i + 1) (kindAt image i) (offset + lengthAt image i) (p .others))
-
-pub sections-ascend : (image : List ℕ) → layoutVerdict image ≡ Accepted → Ascending 0 (sections image)
-unfolding sections
-sections-ascend image good = lines-ascend image (lineCount image) 0 0 (linePlace (lineCount image)) (layout-passed image good .lines)
-
 -- ---- 9
 
 module _ (level : ℕ) where
@@ -98,12 +76,7 @@ module _ (level : ℕ) where
 
   -- in rising order a kind held stands above those before it
   held-above : (previous kind : ℕ) (ss : List Section) → Ascending previous ss → holds kind ss ≡ true → previous < kind
-  unfolding bodyOf
-  held-above previous kind [] rising h = never h
-  held-above previous kind (s ∷ ss) rising h =
-      decide (eqb kind (s .kind))
-      (λ e. rw (eqb-true kind (s .kind) e) (rising .0))
-      (λ e. let above = held-above (s .kind) kind ss (rising .1) (rw e at h) in omega (arith, rising .0))
+  held-above previous kind ss rising h = split kind previous (λ below. never (rw (none-below previous kind ss rising below) at h)) (λ above. above)
 
   pub unknown-none : (ss : List Section) → NoneUnknown level ss → unknownVerdict level ss ≡ Accepted
   unfolding unknownVerdict bodyOf

@@ -20,6 +20,7 @@ use Rattle.refusals.specs.VerdictLaws.{asked, first-passed, next-passed}
 use Rattle.image.specs.Layout.{lineCount, linePlace, kindAt, lengthAt, startVerdict, countVerdict, linesVerdict, sumsVerdict, layoutVerdict}
 use Rattle.image.specs.Sections.{Section, sections}
 use Rattle.image.specs.Find.{bodyOf}
+use Rattle.image.specs.OrderLaws.{sections-ascend}
 use Rattle.bodies.specs.Identity.{identityFields}
 use Rattle.bodies.specs.Set.{setFields}
 use Rattle.bodies.specs.Trim.{trimOf, trimFields, trimVerdict}
@@ -31,7 +32,7 @@ use Rattle.panel.specs.Verdict.{levelVerdict, unknownVerdict, presentVerdict, m
 use Rattle.panel.specs.Reading.{trimmingOf, sectionsReading, afterVerdict, readingOf}
 use Rattle.promises.specs.Further.{holds}
 use Rattle.promises.specs.Lower.{LowestUnknown, NoneUnknown}
-use Rattle.promises.specs.PanelLaws.{passed, sections-ascend, held-passes, unknown-none, unknown-named, none-or-lowest}
+use Rattle.promises.specs.PanelLaws.{passed, held-passes, unknown-none, unknown-named, none-or-lowest}
 use Rattle.promises.specs.RefusalRows.{bodyStart, kindBefore, keepsLayout, keepsSum, LayoutRow, start, count, line, end, sum, VerdictRow, level-is-none, layout, unknown, missing, identity, pressureSet, temperatureSet, trim, note, ReadingRow, verdict, counts}
 use Rattle.promises.specs.RowsLaws.{VerdictBy, AnswerBy, ask-by, then-by, fields-by, other-rows}
 use Rattle.promises.specs.MeasuredRows.{measured-by}

@@ -8,10 +8,10 @@ use Rattle.panel.proofs.verdicts.bodies_verdict.Tie as tie
 ruleset laws = (needs, passing-first, bodies-more, body-refused, bodies-passed)
 
 abbrev Inv-loop : tie.InvT-loop
-Inv-loop image level count i₀ i = Passing (sectionBySection level) image count i
+Inv-loop image level count line₀ line = Passing (sectionBySection level) image count line
 
 abbrev μ-loop : tie.MeasureT-loop
-μ-loop image level count i₀ i = count - i
+μ-loop image level count line₀ line = count - line
 
 number1-requires : tie.Need-number1-requires Inv-loop μ-loop
 number1-requires c κs = search laws
@@ -34,8 +34,8 @@ enum-told-2 c = search laws
 returns : tie.Need-returns Inv-loop μ-loop
 returns c = search laws
 
-add-i : tie.Need-add-i Inv-loop μ-loop
-add-i c = search laws
+add-line : tie.Need-add-line Inv-loop μ-loop
+add-line c = search laws
 
 loop-less : tie.Need-loop-less Inv-loop μ-loop
 loop-less c = search laws
@@ -59,7 +59,7 @@ bodies-verdict-spec =
     enum-told
     enum-told-2
     returns
-    add-i
+    add-line
     loop-less
     loop-again
     returns-2)
