@@ -1,6 +1,6 @@
 -- The bodies judged in one walk over the sections: where kinds rise, it comes to the bodies of the kinds in their order.
 use mathlib.Core.Path.{_≡_, refl, sym, ap, _∙_}
-use mathlib.Core.Bool.{true, false, cond}
+use mathlib.Core.Bool.{Bool, true, false, cond}
 use mathlib.Core.List.{List, [], _∷_}
 use mathlib.Core.Option.{none}
 use Prim.Native.Nat.{ℕ, _≤_, _<_}
@@ -19,16 +19,16 @@ use Rattle.panel.specs.Levels.{knows}
 use Rattle.panel.specs.Verdict.{kindVerdict, bodyVerdict, bodiesVerdict}
 
 -- a body, where the level knows its kind
-abbrev pub judged : (level kind : ℕ) → (body : List ℕ) → Verdict
-judged level kind body = cond (knows level kind) (kindVerdict kind body) Accepted
+abbrev pub knownVerdict : (level kind : ℕ) → (body : List ℕ) → Verdict
+knownVerdict level kind body = cond (knows level kind) (kindVerdict kind body) Accepted
 
 abbrev pub lineVerdict : (level : ℕ) → (image : List ℕ) → (i : ℕ) → Verdict
-lineVerdict level image i = judged level (kindAt image i) (bodyAt image i)
+lineVerdict level image i = knownVerdict level (kindAt image i) (bodyAt image i)
 
 -- section by section
 unfoldable pub sectionBySection : (level : ℕ) → List Section → Verdict
 sectionBySection level [] = Accepted
-sectionBySection level (s ∷ ss) = andThen (judged level (s .kind) (s .body)) (sectionBySection level ss)
+sectionBySection level (s ∷ ss) = andThen (knownVerdict level (s .kind) (s .body)) (sectionBySection level ss)
 
 -- kind by kind
 unfoldable pub kindByKind : (level : ℕ) → List ℕ → List Section → Verdict
@@ -52,9 +52,13 @@ and-accepted : (v : Verdict) → andThen v Accepted ≡ v
 and-accepted Accepted = refl
 and-accepted (Refused r) = refl
 
+known-accepted : (known : Bool) {v : Verdict} → v ≡ Accepted → cond known v Accepted ≡ Accepted
+known-accepted true e = e
+known-accepted false e = refl
+
 module _ (level : ℕ) where
   module _ (s : Section) (ss : List Section) where
-    body-here : bodyVerdict level (s .kind) (s ∷ ss) ≡ judged level (s .kind) (s .body)
+    body-here : bodyVerdict level (s .kind) (s ∷ ss) ≡ knownVerdict level (s .kind) (s .body)
     unfolding bodyVerdict bodyOf
     body-here = rw (eq-eqb (s .kind) (s .kind) refl)
 
@@ -69,7 +73,7 @@ module _ (level : ℕ) where
 
   body-absent : (kind : ℕ) (ss : List Section) → bodyOf kind ss ≡ none → bodyVerdict level kind ss ≡ Accepted
   unfolding bodyVerdict
-  body-absent kind ss e = rw e (decide (knows level kind) (λ known. rw known) (λ unknown. rw unknown))
+  body-absent kind ss e = rw e (known-accepted (knows level kind) refl)
 
   kinds-absent : (ks : List ℕ) → kindByKind level ks [] ≡ Accepted
   unfolding kindByKind bodyOf
@@ -78,8 +82,8 @@ module _ (level : ℕ) where
 
   -- the lowest of the sections is judged first
   lowest-first : (previous : ℕ) (ks : List ℕ) (s : Section) (ss : List Section) → Rise previous ks → Ascending (s .kind) ss
-      → (IsNone (s .kind) ks → judged level (s .kind) (s .body) ≡ Accepted)
-      → kindByKind level ks (s ∷ ss) ≡ andThen (judged level (s .kind) (s .body)) (kindByKind level ks ss)
+      → (IsNone (s .kind) ks → knownVerdict level (s .kind) (s .body) ≡ Accepted)
+      → kindByKind level ks (s ∷ ss) ≡ andThen (knownVerdict level (s .kind) (s .body)) (kindByKind level ks ss)
   unfolding kindByKind
   lowest-first previous [] s ss rise above other = rw (other tt)
   lowest-first previous (k ∷ ks) s ss rise above other =
@@ -89,7 +93,7 @@ module _ (level : ℕ) where
       decide (eqb k (s .kind))
       (λ (e : eqb k (s .kind) ≡ true).
       let same = eqb-true k (s .kind) e in
-      let here : bodyVerdict level k (s ∷ ss) ≡ judged level (s .kind) (s .body) = rw same (body-here s ss) in
+      let here : bodyVerdict level k (s ∷ ss) ≡ knownVerdict level (s .kind) (s .body) = rw same (body-here s ss) in
       rw (here, kinds-later s ss ks (is-none k (s .kind) ks (rise .1) (omega arith)), absent))
       (λ (e : eqb k (s .kind) ≡ false).
       let differs : s .kind ≡ k → ⊥ = λ same. never (sym e ∙ eq-eqb k (s .kind) (sym same)) in
@@ -104,8 +108,8 @@ module _ (level : ℕ) where
   unfolding sectionBySection
   kinds-in-order ks rise other previous [] rising = kinds-absent ks
   kinds-in-order ks rise other previous (s ∷ ss) rising =
-      lowest-first 0 ks s ss rise (rising .1) (λ none. rw (other (s .kind) (s .body) none) (decide (knows level (s .kind)) (λ known. rw known) (λ unknown. rw unknown)))
-      ∙ ap (andThen (judged level (s .kind) (s .body))) (kinds-in-order ks rise other (s .kind) ss (rising .1))
+      lowest-first 0 ks s ss rise (rising .1) (λ none. known-accepted (knows level (s .kind)) (other (s .kind) (s .body) none))
+      ∙ ap (andThen (knownVerdict level (s .kind) (s .body))) (kinds-in-order ks rise other (s .kind) ss (rising .1))
 
 -- ---- the kinds that are judged
 
