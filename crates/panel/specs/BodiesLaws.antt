@@ -118,7 +118,7 @@ judgedKinds = 1 ∷ 2 ∷ 3 ∷ 4 ∷ 129 ∷ []
 
 pub not-judged : (kind : ℕ) (body : List ℕ) → IsNone kind judgedKinds → kindVerdict kind body ≡ Accepted
 unfolding kindVerdict
-not-judged kind body n = rw (ne-eqb kind 1 (n .0), ne-eqb kind 2 (n .1 .0), ne-eqb kind 3 (n .1 .1 .0), ne-eqb kind 4 (n .1 .1 .1 .0), ne-eqb kind 129 (n .1 .1 .1 .1 .0))
+not-judged kind body (one, (two, (three, (four, (note, _))))) = rw (ne-eqb kind 1 one, ne-eqb kind 2 two, ne-eqb kind 3 three, ne-eqb kind 4 four, ne-eqb kind 129 note)
 
 pub bodies-in-order : (level : ℕ) (ss : List Section) → Ascending 0 ss → bodiesVerdict level ss ≡ sectionBySection level ss
 unfolding bodiesVerdict kindByKind
