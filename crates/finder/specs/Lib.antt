@@ -1,3 +1,5 @@
 pub mod Places
+pub mod Told
 pub mod PlacesLaws
 pub mod FinderLaws
+pub mod ToldLaws

@@ -7,6 +7,12 @@ use numbers::fields;
 use numbers::slices;
 use refusals::Verdict;
 
+// The place for C.
+mod told;
+
+pub use told::ToldPlace;
+pub use told::tell_place;
+
 // Where a body stands: its offset in the image, and its length.
 pub enum Place {
     At(usize, usize),

@@ -35,7 +35,7 @@ use Rattle.panel.specs.Levels.{isLevel}
 use Rattle.panel.specs.Verdict.{verdictOf}
 use Rattle.panel.specs.Reading.{readingOf}
 use Rattle.panel.specs.Load.{loadText}
-use Rattle.promises.specs.Paper.{answerNumber, answerDetail, answerPressure, answerTemperature, answerUnit, answerMark}
+use Rattle.reading.specs.Paper.{answerNumber, answerDetail, answerPressure, answerTemperature, answerUnit, answerMark}
 use Rattle.promises.specs.RefusalRows.{TextRow, WriterRow, BuilderRow, LayoutRow, VerdictRow, MeasuredRow, ReadingRow, LoadRow}
 use Rattle.promises.specs.RowsLaws.{fields-told, verdict-told, filled-told, answer-told}
 use Rattle.promises.specs.OutcomeRows.{text-rows, writer-rows, builder-rows, measured-rows, load-rows}

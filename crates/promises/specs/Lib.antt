@@ -1,6 +1,5 @@
 pub mod Further
 pub mod Lower
-pub mod Paper
 pub mod RefusalRows
 pub mod ExampleImage
 pub mod Manual

@@ -19,7 +19,7 @@ use Rattle.reading.specs.declared.Answer.{Answer}
 use Rattle.reading.specs.declared.Answer.the-variants.{Shown, Refused}
 use Rattle.reading.specs.Value.{given, withValue, within}
 use Rattle.reading.specs.Measured.{andShow}
-use Rattle.promises.specs.Paper.{answerNumber, answerDetail}
+use Rattle.reading.specs.Paper.{answerNumber, answerDetail}
 
 module _ (Row : (number detail : ℕ) → Type 0) where
   abbrev pub VerdictBy : Verdict → Type 0

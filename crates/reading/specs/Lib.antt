@@ -2,10 +2,13 @@ pub mod Value
 pub mod Frequency
 pub mod Polynomial
 pub mod Measured
+pub mod Paper
+pub mod Told
 pub mod ValueLaws
 pub mod FrequencyLaws
 pub mod PolynomialLaws
 pub mod MeasuredLaws
+pub mod ToldLaws
 pub mod Examples
 pub mod Nested
 pub mod NestedLaws

@@ -18,6 +18,12 @@ mod measure;
 
 pub use measure::measured;
 
+// The answer for C.
+mod told;
+
+pub use told::ToldAnswer;
+pub use told::tell_answer;
+
 // Cycles of a gauge's sensor.
 pub struct SensorCycles(pub u64);
 

@@ -1,5 +1,7 @@
 pub mod Paper
 pub mod Refusals
+pub mod Told
 pub mod RefusalsLaws
 pub mod VerdictLaws
 pub mod FieldsVerdictLaws
+pub mod ToldLaws

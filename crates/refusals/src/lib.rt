@@ -1,6 +1,14 @@
 // How anything is refused, and what a lent buffer then holds.
 ghost use Rattle.refusals.specs.Refusals.{Settled};
 
+// Answers for C.
+mod told;
+
+pub use told::ToldFilled;
+pub use told::ToldVerdict;
+pub use told::tell_filled;
+pub use told::tell_verdict;
+
 // A number of document 01's table and its detail, which is wide enough for the line of any text.
 pub struct Refusal {
     pub number: u32,

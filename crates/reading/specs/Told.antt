@@ -1,0 +1,15 @@
+-- An answer as C gets it.
+use Rattle.reading.specs.declared.Answer.{Answer}
+use Rattle.reading.specs.declared.told.ToldAnswer.{ToldAnswer}
+use Rattle.reading.specs.Paper.{answerNumber, answerDetail, answerPressure, answerTemperature, answerUnit, answerMark}
+
+abbrev pub answerTold : Answer → ToldAnswer
+answerTold answer =
+    record {
+      number = answerNumber answer;
+      detail = answerDetail answer;
+      pressure = answerPressure answer;
+      temperature = answerTemperature answer;
+      unit = answerUnit answer;
+      mark = answerMark answer;
+    }

@@ -1,0 +1,40 @@
+// An answer as C gets it.
+ghost use mathlib.Core.Path.{_≡_};
+ghost use Rattle.reading.specs.Told.{answerTold};
+use crate::Answer;
+
+// Number 0 and a reading: pressure in 1/65,536 of the unit (1 psi, 2 bar, 3 kPa), temperature in 1/65,536 degrees Celsius, and
+// the mark, 1 where the temperature lies outside the gauge's limits plus 2 where the pressure does. Else the refusal's number and
+// detail, and 0 for each value.
+#[repr(C)]
+pub struct ToldAnswer {
+    pub number: u32,
+    pub detail: u64,
+    pub pressure: i64,
+    pub temperature: i64,
+    pub unit: u8,
+    pub mark: u8,
+}
+
+pub fn tell_answer(answer: Answer) -> ToldAnswer
+    ensures { λ r. ⌜ r ≡ answerTold answer ⌝ }
+{
+    match answer {
+        Answer::Shown(reading) => ToldAnswer {
+            number: 0,
+            detail: 0,
+            pressure: reading.pressure,
+            temperature: reading.temperature,
+            unit: reading.unit,
+            mark: reading.mark,
+        },
+        Answer::Refused(refusal) => ToldAnswer {
+            number: refusal.number,
+            detail: refusal.detail,
+            pressure: 0,
+            temperature: 0,
+            unit: 0,
+            mark: 0,
+        },
+    }
+}
