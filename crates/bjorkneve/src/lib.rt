@@ -1,0 +1,116 @@
+// What C and Rust call: numbers and slices in, a struct of numbers out. The C header is printed from here, with each function's
+// comment, so these speak to its reader.
+ghost use mathlib.Core.Path.{_≡_};
+ghost use lib.ListN.{length};
+ghost use Rattle.refusals.specs.Told.{verdictTold, ToldFills};
+ghost use Rattle.hextext.specs.Text.{readText};
+ghost use Rattle.hextext.specs.Written.{writeImage};
+ghost use Rattle.image.specs.Layout.{layoutVerdict};
+ghost use Rattle.image.specs.Find.{found, foundOffset};
+ghost use Rattle.finder.specs.Places.{placed};
+ghost use Rattle.finder.specs.Told.{placeTold};
+ghost use Rattle.builder.specs.Build.{buildImage};
+ghost use Rattle.reading.specs.Told.{answerTold};
+ghost use Rattle.panel.specs.Verdict.{verdictOf};
+ghost use Rattle.panel.specs.Load.{loadText};
+ghost use Rattle.panel.specs.Reading.{readingOf};
+ghost use Rattle.bjorkneve.specs.Given.{linesGiven, countsGiven};
+use finder::ToldPlace;
+use reading::Channel;
+use reading::Counts;
+use reading::ReferenceCycles;
+use reading::SensorCycles;
+use reading::ToldAnswer;
+use refusals::ToldFilled;
+use refusals::ToldVerdict;
+
+// Contents lines from two lists of numbers.
+mod lines;
+
+// Reads a HEX text into the image.
+#[no_mangle]
+pub extern "C" fn bjorkneve_read(text: &[u8], image: &mut [u8]) -> ToldFilled
+    ensures { λ r. ⌜ ToldFills (readText (length (now (image .entry))) (now (text .entry))) (now (image .entry)) r (now (image .exit)) ⌝ }
+{
+    refusals::tell_filled(hexread::read(text, image))
+}
+
+// Writes an image as a HEX text.
+#[no_mangle]
+pub extern "C" fn bjorkneve_write(image: &[u8], text: &mut [u8]) -> ToldFilled
+    ensures { λ r. ⌜ ToldFills (writeImage (length (now (text .entry))) (now (image .entry))) (now (text .entry)) r (now (text .exit)) ⌝ }
+{
+    refusals::tell_filled(hexwrite::write(image, text))
+}
+
+// Reads a HEX text into the image and judges it as a panel of this level does.
+#[no_mangle]
+pub extern "C" fn bjorkneve_load(text: &[u8], level: u32, image: &mut [u8]) -> ToldFilled
+    ensures { λ r. ⌜ ToldFills (loadText level (length (now (image .entry))) (now (text .entry))) (now (image .entry)) r (now (image .exit)) ⌝ }
+{
+    refusals::tell_filled(panel::load(text, level, image))
+}
+
+// Judges an image's layout only, whatever its sections hold.
+#[no_mangle]
+pub extern "C" fn bjorkneve_layout(image: &[u8]) -> ToldVerdict
+    ensures { λ r. ⌜ r ≡ verdictTold (layoutVerdict (now (image .entry))) ⌝ }
+{
+    refusals::tell_verdict(layout::layout(image))
+}
+
+// What a panel of this level says of an image.
+#[no_mangle]
+pub extern "C" fn bjorkneve_verdict(image: &[u8], level: u32) -> ToldVerdict
+    ensures { λ r. ⌜ r ≡ verdictTold (verdictOf level (now (image .entry))) ⌝ }
+{
+    refusals::tell_verdict(panel::verdict(image, level))
+}
+
+// Finds the section of a kind. In an image whose layout is refused no kind is there.
+#[no_mangle]
+pub extern "C" fn bjorkneve_find(image: &[u8], kind: u32) -> ToldPlace
+    ensures { λ r. ⌜ r ≡ placeTold (placed (foundOffset (now (image .entry)) kind) (found (now (image .entry)) kind)) ⌝ }
+{
+    finder::tell_place(finder::place_of(image, kind))
+}
+
+// Builds an image of sections: section i has kind kinds[i] and a body of lengths[i] bytes, and bodies is all bodies joined. Where
+// kinds and lengths are not equally many they are no list of sections, which is refused as an empty list is.
+#[no_mangle]
+pub extern "C" fn bjorkneve_build(
+    kinds: &[u32],
+    lengths: &[usize],
+    bodies: &[u8],
+    image: &mut [u8],
+) -> ToldFilled
+    ensures { λ r. ⌜ ToldFills (buildImage (length (now (image .entry))) (linesGiven (now (kinds .entry)) (now (lengths .entry))) (now (bodies .entry))) (now (image .entry)) r (now (image .exit)) ⌝ }
+{
+    refusals::tell_filled(builder::build_table(lines::table(kinds, lengths), bodies, image))
+}
+
+// The reading that a panel of this level takes by an image. The image may be any bytes: it is judged first, at every call. Each
+// channel has the cycles that its sensor ran, and the cycles of the 7.2 MHz reference counted meanwhile.
+#[no_mangle]
+pub extern "C" fn bjorkneve_reading(
+    image: &[u8],
+    level: u32,
+    pressure_sensor: u64,
+    pressure_reference: u64,
+    temperature_sensor: u64,
+    temperature_reference: u64,
+) -> ToldAnswer
+    ensures { λ r. ⌜ r ≡ answerTold (readingOf level (now (image .entry)) (countsGiven «pressure_sensor» «pressure_reference» «temperature_sensor» «temperature_reference»)) ⌝ }
+{
+    let counts = Counts {
+        pressure: Channel {
+            sensor: SensorCycles(pressure_sensor),
+            reference: ReferenceCycles(pressure_reference),
+        },
+        temperature: Channel {
+            sensor: SensorCycles(temperature_sensor),
+            reference: ReferenceCycles(temperature_reference),
+        },
+    };
+    reading::tell_answer(panel::reading(image, level, counts))
+}
