@@ -27,7 +27,7 @@ use refusals::ToldVerdict;
 // Contents lines from two lists of numbers.
 mod lines;
 
-// Reads a HEX text into the image.
+// Reads a HEX text into the image. Refused 1 to 4, with the line in the text as the detail.
 #[no_mangle]
 pub extern "C" fn bjorkneve_read(text: &[u8], image: &mut [u8]) -> ToldFilled
     ensures { λ r. ⌜ ToldFills (readText (length (now (image .entry))) (now (text .entry))) (now (image .entry)) r (now (image .exit)) ⌝ }
@@ -35,7 +35,7 @@ pub extern "C" fn bjorkneve_read(text: &[u8], image: &mut [u8]) -> ToldFilled
     refusals::tell_filled(hexread::read(text, image))
 }
 
-// Writes an image as a HEX text.
+// Writes an image as a HEX text, which takes 11,276 bytes for the longest image. Refused 4 or 17.
 #[no_mangle]
 pub extern "C" fn bjorkneve_write(image: &[u8], text: &mut [u8]) -> ToldFilled
     ensures { λ r. ⌜ ToldFills (writeImage (length (now (text .entry))) (now (image .entry))) (now (text .entry)) r (now (text .exit)) ⌝ }
@@ -43,7 +43,8 @@ pub extern "C" fn bjorkneve_write(image: &[u8], text: &mut [u8]) -> ToldFilled
     refusals::tell_filled(hexwrite::write(image, text))
 }
 
-// Reads a HEX text into the image and judges it as a panel of this level does.
+// Reads a HEX text into the image and judges it as a panel of this level does. Refused as by bjorkneve_read, then as by
+// bjorkneve_verdict.
 #[no_mangle]
 pub extern "C" fn bjorkneve_load(text: &[u8], level: u32, image: &mut [u8]) -> ToldFilled
     ensures { λ r. ⌜ ToldFills (loadText level (length (now (image .entry))) (now (text .entry))) (now (image .entry)) r (now (image .exit)) ⌝ }
@@ -51,7 +52,7 @@ pub extern "C" fn bjorkneve_load(text: &[u8], level: u32, image: &mut [u8]) -> T
     refusals::tell_filled(panel::load(text, level, image))
 }
 
-// Judges an image's layout only, whatever its sections hold.
+// Judges an image's layout, and not what its sections hold. Refused 5 to 8.
 #[no_mangle]
 pub extern "C" fn bjorkneve_layout(image: &[u8]) -> ToldVerdict
     ensures { λ r. ⌜ r ≡ verdictTold (layoutVerdict (now (image .entry))) ⌝ }
@@ -59,7 +60,7 @@ pub extern "C" fn bjorkneve_layout(image: &[u8]) -> ToldVerdict
     refusals::tell_verdict(layout::layout(image))
 }
 
-// What a panel of this level says of an image.
+// Judges an image as a panel of this level does. Refused 20, then 5 to 13, 15 or 16.
 #[no_mangle]
 pub extern "C" fn bjorkneve_verdict(image: &[u8], level: u32) -> ToldVerdict
     ensures { λ r. ⌜ r ≡ verdictTold (verdictOf level (now (image .entry))) ⌝ }
@@ -67,7 +68,7 @@ pub extern "C" fn bjorkneve_verdict(image: &[u8], level: u32) -> ToldVerdict
     refusals::tell_verdict(panel::verdict(image, level))
 }
 
-// Finds the section of a kind. In an image whose layout is refused no kind is there.
+// Finds the section of a kind. No kind is there in an image whose layout is refused.
 #[no_mangle]
 pub extern "C" fn bjorkneve_find(image: &[u8], kind: u32) -> ToldPlace
     ensures { λ r. ⌜ r ≡ placeTold (placed (foundOffset (now (image .entry)) kind) (found (now (image .entry)) kind)) ⌝ }
@@ -75,8 +76,8 @@ pub extern "C" fn bjorkneve_find(image: &[u8], kind: u32) -> ToldPlace
     finder::tell_place(finder::place_of(image, kind))
 }
 
-// Builds an image of sections: section i has kind kinds[i] and a body of lengths[i] bytes, and bodies is all bodies joined. Where
-// kinds and lengths are not equally many they are no list of sections, which is refused as an empty list is.
+// Builds an image of sections: section i has the kind kinds[i] and a body of lengths[i] bytes, and bodies are all of them joined.
+// Refused 18, 19 or 17; 18 too where kinds and lengths are not equally many.
 #[no_mangle]
 pub extern "C" fn bjorkneve_build(
     kinds: &[u32],
@@ -89,8 +90,8 @@ pub extern "C" fn bjorkneve_build(
     refusals::tell_filled(builder::build_table(lines::table(kinds, lengths), bodies, image))
 }
 
-// The reading that a panel of this level takes by an image. The image may be any bytes: it is judged first, at every call. Each
-// channel has the cycles that its sensor ran, and the cycles of the 7.2 MHz reference counted meanwhile.
+// Takes the reading of a panel of this level, by an image that is judged anew at each call. A channel has the cycles that its
+// sensor ran and the cycles of the 7.2 MHz reference that were counted meanwhile. Refused as by bjorkneve_verdict, then 21 to 26.
 #[no_mangle]
 pub extern "C" fn bjorkneve_reading(
     image: &[u8],

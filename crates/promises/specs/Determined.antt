@@ -7,14 +7,17 @@ use lib.ListN.{length}
 use denote.Ref.{RefT, now, ptr}
 use Rattle.numbers.specs.Slices.{IsPart}
 use Rattle.refusals.specs.declared.Filled.{Filled}
+use Rattle.refusals.specs.declared.told.ToldFilled.{ToldFilled}
 use Rattle.refusals.specs.Refusals.{Outcome, answerTo, heldAfter, Fills, Settled}
+use Rattle.refusals.specs.Told.{filledTold, ToldFills}
 use Rattle.image.specs.Find.{Found}
 
 -- The one law: a contract is an equation with a definition. By it alone, every public function that is not named below:
 -- layout::layout; finder::stated, place_of, has; bodies::identity_verdict, read_identity, set_verdict, read_set, read_grid,
 -- trim_verdict, read_trim, note_verdict; reading::measured; panel::verdict, panel::reading; numbers::fields::number1, number2, number4,
 -- number8, signed4, signed8; numbers::slices::byte_sum, clear_from (of the buffer); numbers::whole::magnitude;
--- numbers::rounding::rounded_over_2_24, rounded_over_2_28, rounded_over_2_32.
+-- numbers::rounding::rounded_over_2_24, rounded_over_2_28, rounded_over_2_32; refusals::tell_verdict, tell_filled; finder::tell_place;
+-- reading::tell_answer; bjorkneve_layout, bjorkneve_verdict, bjorkneve_find, bjorkneve_reading.
 pub determined : {A : Type 0} (r r′ said : A) → r ≡ said → r′ ≡ said → r ≡ r′
 determined r r′ said e f = e ∙ sym f
 
@@ -27,6 +30,16 @@ module _ (outcome : Outcome) (before : List ℕ) where
 
   pub fills-allowed : Fills outcome before (answerTo outcome) (heldAfter (length before) outcome)
   fills-allowed = record { answers = refl; holds = refl }
+
+  -- and with the answer in numbers:
+  -- bjorkneve_read, bjorkneve_write, bjorkneve_load, bjorkneve_build.
+  pub told-fills-determined : (told told′ : ToldFilled) (after after′ : List ℕ) → ToldFills outcome before told after → ToldFills outcome before told′ after′
+      → (told ≡ told′) × (after ≡ after′)
+  told-fills-determined told told′ after after′ f g =
+      (determined told told′ (filledTold (answerTo outcome)) (f .tells) (g .tells), determined after after′ (heldAfter (length before) outcome) (f .holds) (g .holds))
+
+  pub told-fills-allowed : ToldFills outcome before (filledTold (answerTo outcome)) (heldAfter (length before) outcome)
+  told-fills-allowed = record { tells = refl; holds = refl }
 
 -- And of refusals::settled.
 pub settled-determined : (answer passed passed′ : Filled) (before after after′ : List ℕ) → Settled answer before passed after → Settled answer before passed′ after′

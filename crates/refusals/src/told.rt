@@ -27,9 +27,9 @@ pub fn tell_verdict(verdict: Verdict) -> ToldVerdict
             number: 0,
             detail: 0,
         },
-        Verdict::Refused(refusal) => ToldVerdict {
-            number: refusal.number,
-            detail: refusal.detail,
+        Verdict::Refused(why) => ToldVerdict {
+            number: why.number,
+            detail: why.detail,
         },
     }
 }
