@@ -1,0 +1,37 @@
+/* A panel in small: loads a HEX text at level 2 and takes one reading, or says why there is none. */
+#include "bjorkneve.h"
+#include <inttypes.h>
+#include <stdio.h>
+
+static uint8_t text[65537]; /* one byte more than a text may have */
+static uint8_t image[4096];
+
+static int refused(uint32_t number, uint64_t detail) {
+    printf("refused %" PRIu32 " %" PRIu64 "\n", number, detail);
+    return 0;
+}
+
+int main(int count, char **words) {
+    static const char *const units[] = {"", "psi", "bar", "kPa"};
+    FILE *file = count == 2 ? fopen(words[1], "rb") : NULL;
+    if (file == NULL) {
+        fprintf(stderr, "usage: panel FILE, with a HEX text in FILE\n");
+        return 2;
+    }
+    size_t length = fread(text, 1, sizeof text, file);
+    fclose(file);
+    if (length == sizeof text)
+        return refused(4, 0);
+
+    BjorkneveFilled loaded = bjorkneve_load(text, length, 2, image, sizeof image);
+    if (loaded.number != 0)
+        return refused(loaded.number, loaded.detail);
+
+    /* 10,000 cycles of each sensor: 25,282 Hz and 53,220 Hz */
+    BjorkneveAnswer answer = bjorkneve_reading(image, loaded.length, 2, 10000, 2847876, 10000, 1352875);
+    if (answer.number != 0)
+        return refused(answer.number, answer.detail);
+    printf("pressure %.3f %s temperature %.3f C mark %d\n", (double)answer.pressure / 65536, units[answer.unit],
+           (double)answer.temperature / 65536, answer.mark);
+    return 0;
+}
