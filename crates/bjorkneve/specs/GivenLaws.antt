@@ -46,13 +46,16 @@ module _ (kinds lengths : List ℕ) where
     unfolding linesGiven
     given-even = rw (eq-eqb (length kinds) (length lengths) e)
 
-    pub given-many : (ks ls : List ℕ) → 16 < length kinds → Gathered (record { kinds = ks; lengths = ls; count = 17 }) (linesGiven kinds lengths)
-    given-many ks ls h =
-        record { all = λ z. absurd (omega arith); many = λ _. rw (given-even, table-counted (record { kinds = kinds; lengths = lengths; count = length kinds })) h }
+    -- more than 16, or than any greater bound
+    pub given-many : (ks ls : List ℕ) (most : ℕ) → 16 ≤ most → most < length kinds → Gathered (record { kinds = ks; lengths = ls; count = 17 }) (linesGiven kinds lengths)
+    given-many ks ls most g h =
+        let many : 16 < length kinds = omega arith in
+        record { all = λ z. absurd (omega arith); many = λ _. rw (given-even, table-counted (record { kinds = kinds; lengths = lengths; count = length kinds })) many }
 
-    pub gathering-first : (ks ls : List ℕ) → length ks ≡ 16 → length ls ≡ 16 → length kinds ≤ 16 → Gathering kinds lengths (record { kinds = ks; lengths = ls; count = 0 })
+    -- up to 16, or to any lower bound
+    pub gathering-first : (ks ls : List ℕ) → length ks ≡ 16 → length ls ≡ 16 → (most : ℕ) → most ≤ 16 → length kinds ≤ most → Gathering kinds lengths (record { kinds = ks; lengths = ls; count = 0 })
     unfolding tableLinesFrom
-    gathering-first ks ls a b f = record { so-far = gathered-none ks ls; within = omega arith; few = f; even = e; kind-places = a; length-places = b }
+    gathering-first ks ls a b most l f = record { so-far = gathered-none ks ls; within = omega arith; few = omega arith; even = e; kind-places = a; length-places = b }
 
   module _ (table : Table) (g : Gathering kinds lengths table) where
     pub gathering-more : table .count < length kinds → Gathering kinds lengths (record {
