@@ -53,7 +53,8 @@ module _ (kinds lengths : List ℕ) where
         record { all = λ z. absurd (omega arith); many = λ _. rw (given-even, table-counted (record { kinds = kinds; lengths = lengths; count = length kinds })) many }
 
     -- up to 16, or to any lower bound
-    pub gathering-first : (ks ls : List ℕ) → length ks ≡ 16 → length ls ≡ 16 → (most : ℕ) → most ≤ 16 → length kinds ≤ most → Gathering kinds lengths (record { kinds = ks; lengths = ls; count = 0 })
+    pub gathering-first : (ks ls : List ℕ) → length ks ≡ 16 → length ls ≡ 16 → (most : ℕ) → most ≤ 16 → length kinds ≤ most
+        → Gathering kinds lengths (record { kinds = ks; lengths = ls; count = 0 })
     unfolding tableLinesFrom
     gathering-first ks ls a b most l f = record { so-far = gathered-none ks ls; within = omega arith; few = omega arith; even = e; kind-places = a; length-places = b }
 
@@ -82,13 +83,13 @@ module _ (kinds lengths : List ℕ) where
 
 -- ---- what is built
 
--- of the table is built of the lines
+-- of the table, as of the lines that it was gathered from
 pub told-built : (size : ℕ) (bodies : List ℕ) {table : Table} {lines : List Line} {before after : List ℕ} {answer : Filled} {r : ToldFilled}
     → Gathered table lines → Fills (buildImage size (tableLines table) bodies) before answer after → r ≡ filledTold answer
     → ToldFills (buildImage size lines bodies) before r after
 told-built size bodies {table} {lines} g f e = rw (gathered-builds table lines size bodies g) at (told-fills f e)
 
--- nothing, where kinds and lengths are not equally many: refused 18, whatever the bodies and the buffer
+-- nothing where kinds and lengths are not equally many: refused 18, whatever the bodies and the buffer
 pub uneven-refused : (kinds lengths : List ℕ) (size : ℕ) (bodies : List ℕ) → (length kinds ≡ length lengths → ⊥)
     → buildImage size (linesGiven kinds lengths) bodies ≡ refused (refusal 18 0)
 unfolding linesGiven buildImage buildVerdict
