@@ -43,6 +43,10 @@ def coefficient_set(rows):
     return head + b"".join(struct.pack("<q", c) for c in scaled)
 
 
+def typical_sections(serial):
+    return {1: identity(serial), 2: coefficient_set(PRESSURE), 3: coefficient_set(TEMPERATURE)}
+
+
 def image(sections):
     place = 2 + 8 * len(sections)
     contents, bodies = bytes([0x51, len(sections)]), b""
@@ -65,7 +69,7 @@ def text(data):
 
 def main():
     folder = pathlib.Path(sys.argv[1] if len(sys.argv) > 1 else pathlib.Path(__file__).parent)
-    typical = {1: identity(157879), 2: coefficient_set(PRESSURE), 3: coefficient_set(TEMPERATURE)}
+    typical = typical_sections(157879)
     bar = struct.pack("<BBBBIq", 2, 0, 0, 0, 18507980, 0)
     texts = {
         "typical": text(image(typical)),
@@ -88,4 +92,5 @@ def main():
             subprocess.run(["objcopy", "-I", "binary", "-O", "ihex", binary, out], check=True)
 
 
-main()
+if __name__ == "__main__":
+    main()
