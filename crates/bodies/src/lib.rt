@@ -73,5 +73,5 @@ fn outside(low: u64, number: u64, high: u64) -> bool
 fn beyond(number: i64, limit: u64) -> bool
     ensures { λ r. ⌜ r ≡ not (leb (natAbs number) limit) ⌝ }
 {
-    limit < numbers::whole::magnitude(number)
+    limit < whole::magnitude(number)
 }

@@ -1,11 +1,4 @@
-// Numbers and where they stand: a quotient rounded, numbers among bytes, parts of a slice. Every function answers for every input.
-
-// n / d to the nearest whole number.
-pub mod rounding;
-mod sign;
-
-// Signed numbers.
-pub mod whole;
+// Numbers and where they stand: numbers among bytes, parts of a slice. Every function answers for every input.
 
 // Numbers among bytes, low byte first.
 pub mod fields;

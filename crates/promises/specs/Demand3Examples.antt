@@ -12,7 +12,7 @@ use lib.ListN.{length}
 use Rattle.laws.specs.Bytes.{Bytes, bytes-nil, bytes-cons}
 use Rattle.laws.specs.Cases.{both-left, both-right}
 use Rattle.numbers.specs.Fields.{littleEndian, numberAt, twosComplement}
-use Rattle.numbers.specs.Rounded.{rounded}
+use Rattle.whole.specs.Rounded.{rounded}
 use Rattle.refusals.specs.declared.Verdict.the-variants.{Accepted, Refused as NotAccepted}
 use Rattle.refusals.specs.Refusals.{result, refusal, fieldsVerdict}
 use Rattle.image.specs.Sections.{Section, sections, bodiesOf, imageOf, Fit}

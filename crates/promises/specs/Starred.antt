@@ -4,8 +4,8 @@ use mathlib.Core.Path.{_≡_}
 use Prim.Native.Nat.{_+_, _^_}
 use lib.IntN.{ℤ, pos, negℤ}
 use lib.ListN.{length}
-use Rattle.numbers.specs.Rounded.{rounded}
-use Rattle.numbers.specs.Examples.{half, half-below-zero}
+use Rattle.whole.specs.Rounded.{rounded}
+use Rattle.whole.specs.Examples.{half, half-below-zero}
 use Rattle.refusals.specs.declared.Verdict.the-variants.{Accepted, Refused as NotAccepted}
 use Rattle.refusals.specs.Refusals.{refused, refusal}
 use Rattle.hextext.specs.Text.{readText}

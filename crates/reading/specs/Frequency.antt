@@ -4,7 +4,7 @@ use Prim.Native.Nat.{ℕ, _*_, _^_}
 use lib.Dec.{leb, eqb}
 use lib.IntN.{ℤ, pos, _-ℤ_, _*ℤ_}
 use lib.Signed.{leZ}
-use Rattle.numbers.specs.Rounded.{rounded}
+use Rattle.whole.specs.Rounded.{rounded}
 use Rattle.refusals.specs.Refusals.{ask}
 use Rattle.bodies.specs.declared.Prescale.{Prescale}
 use Rattle.reading.specs.declared.value.Value.{Value}

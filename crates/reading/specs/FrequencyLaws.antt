@@ -15,8 +15,8 @@ use Rattle.laws.specs.Cases.{decide, positive, both-left, both-right}
 use Rattle.laws.specs.Magnitude.{magnitude-product, magnitude-difference, magnitude-difference-low}
 use Rattle.laws.specs.Order.{between}
 use Rattle.laws.specs.Pattern.{fits-64}
-use Rattle.numbers.specs.Rounded.{rounded}
-use Rattle.numbers.specs.RoundedLaws.{rounded-low}
+use Rattle.whole.specs.Rounded.{rounded}
+use Rattle.whole.specs.RoundedLaws.{rounded-low}
 use Rattle.refusals.specs.Refusals.{refusal, ask}
 use Rattle.bodies.specs.declared.Prescale.{Prescale}
 use Rattle.reading.specs.declared.value.Value.{Value}

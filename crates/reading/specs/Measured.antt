@@ -5,7 +5,7 @@ use Prim.Native.Nat.{ℕ, _+_, _^_}
 use lib.Dec.{leb}
 use lib.IntN.{ℤ, pos, natAbs, _+ℤ_, _*ℤ_}
 use lib.Signed.{ltZ}
-use Rattle.numbers.specs.Rounded.{rounded}
+use Rattle.whole.specs.Rounded.{rounded}
 use Rattle.refusals.specs.Refusals.{refusal}
 use Rattle.bodies.specs.declared.Identity.{Identity}
 use Rattle.bodies.specs.declared.Set.{Set}

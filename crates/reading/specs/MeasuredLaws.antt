@@ -11,8 +11,8 @@ use mir.Syntax.{w32, w64}
 use mir.Val.{SFits}
 use Rattle.laws.specs.Magnitude.{magnitude-product-le, magnitude-sum}
 use Rattle.laws.specs.Pattern.{fits-64}
-use Rattle.numbers.specs.Rounded.{rounded}
-use Rattle.numbers.specs.RoundedLaws.{rounded-high}
+use Rattle.whole.specs.Rounded.{rounded}
+use Rattle.whole.specs.RoundedLaws.{rounded-high}
 use Rattle.refusals.specs.declared.Refusal.{Refusal}
 use Rattle.bodies.specs.declared.Identity.{Identity}
 use Rattle.bodies.specs.declared.Set.{Set}

@@ -2,7 +2,7 @@
 -- places: A + XP (B + XP (C + XP (D + XP E))), with A = A0 + XT (A1 + XT (A2 + XT (A3 + XT A4))), and B to E alike.
 use Prim.Native.Nat.{ℕ, _^_}
 use lib.IntN.{ℤ, _+ℤ_, _*ℤ_}
-use Rattle.numbers.specs.Rounded.{rounded}
+use Rattle.whole.specs.Rounded.{rounded}
 
 -- x × sum, where 2^24 stands for 1
 unfoldable pub times : (x sum : ℤ) → ℤ

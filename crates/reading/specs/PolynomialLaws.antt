@@ -15,8 +15,8 @@ use mir.Val.{SFits, toZ, ofZ}
 use mir.Facts.{toZ-ofZ}
 use Rattle.laws.specs.Magnitude.{magnitude-product-le, magnitude-sum, magnitude-sum-low}
 use Rattle.laws.specs.Pattern.{fits-64}
-use Rattle.numbers.specs.Rounded.{rounded}
-use Rattle.numbers.specs.RoundedLaws.{rounded-high, rounded-nothing}
+use Rattle.whole.specs.Rounded.{rounded}
+use Rattle.whole.specs.RoundedLaws.{rounded-high, rounded-nothing}
 use Rattle.refusals.specs.declared.Refusal.{Refusal}
 use Rattle.refusals.specs.Refusals.{refusal}
 use Rattle.reading.specs.declared.value.Value.{Value}

@@ -24,7 +24,7 @@ pub fn frequency(channel: u64, sensor: SensorCycles, reference: ReferenceCycles)
     if references == 0 {
         return refused(22, channel);
     }
-    let hertz = numbers::rounding::rounded_quotient(471859200000 * cycles, references);
+    let hertz = whole::rounding::rounded_quotient(471859200000 * cycles, references);
     if hertz < 655360000 {
         return refused(23, channel);
     }
@@ -43,11 +43,11 @@ fn scaled(detail: u64, multiplier: u32, difference: i64) -> Value
         return Value::Known(0);
     }
     // a product that might not fit is far beyond the limit
-    if 144115188075855872 / factor < numbers::whole::magnitude(difference) {
+    if 144115188075855872 / factor < whole::magnitude(difference) {
         return refused(24, detail);
     }
     let product = (factor as i64) * difference;
-    let x = numbers::rounding::rounded_over_2_32(product);
+    let x = whole::rounding::rounded_over_2_32(product);
     limited(16777216, 24, detail, x)
 }
 

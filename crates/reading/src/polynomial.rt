@@ -17,10 +17,10 @@ fn step(kind: u64, x: i64, coefficient: i64, sum: i64) -> Value
     ensures { λ r. ⌜ r ≡ stepOf kind x coefficient sum ⌝ }
 {
     // a coefficient this large cannot come back within the limit
-    if 1000000000000 < numbers::whole::magnitude(coefficient) {
+    if 1000000000000 < whole::magnitude(coefficient) {
         return refused(25, kind);
     }
-    let next = coefficient + numbers::rounding::rounded_over_2_24(sum * x);
+    let next = coefficient + whole::rounding::rounded_over_2_24(sum * x);
     limited(500000000000, 25, kind, next)
 }
 

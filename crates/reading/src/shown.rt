@@ -46,7 +46,7 @@ fn trimmed(trim: Trim, pressure: i64) -> i64
     requires { ⌜ (natAbs (trim .zero) ≤ 2 ^ 40) × (natAbs pressure ≤ 2 ^ 31) ⌝ }
     ensures { λ r. ⌜ r ≡ trimmedBy trim pressure ⌝ }
 {
-    trim.zero + numbers::rounding::rounded_over_2_28((trim.span as i64) * pressure)
+    trim.zero + whole::rounding::rounded_over_2_28((trim.span as i64) * pressure)
 }
 
 pub fn show(trimming: Trimming, pressure: i64, temperature: i64, mark: u8) -> Answer
@@ -61,7 +61,7 @@ pub fn show(trimming: Trimming, pressure: i64, temperature: i64, mark: u8) -> An
             mark,
         }),
         Trimming::By(trim) => {
-            if 1099511627776 < numbers::whole::magnitude(trim.zero) {
+            if 1099511627776 < whole::magnitude(trim.zero) {
                 return Answer::Refused(Refusal {
                     number: 15,
                     detail: 0,

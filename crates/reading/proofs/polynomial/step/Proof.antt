@@ -7,7 +7,7 @@ use lib.IntN.{_+ℤ_, _*ℤ_}
 use mir.Syntax.{w64}
 use mir.Val.{SFits, toZ, ofZ}
 use mir.Facts.{toZ-ofZ}
-use Rattle.numbers.specs.Rounded.{rounded}
+use Rattle.whole.specs.Rounded.{rounded}
 use Rattle.reading.specs.Value.{within}
 use Rattle.reading.specs.Polynomial.{stepOf}
 use Rattle.reading.specs.PolynomialLaws.{step-far, step-product-fits, step-sum-fits}

@@ -8,7 +8,7 @@ use mir.Syntax.{w64}
 use mir.Val.{SFits, toZ, ofZ}
 use mir.Facts.{toZ-ofZ, toZ-pos}
 use Rattle.laws.specs.Pattern.{read-back, fits-64}
-use Rattle.numbers.specs.Rounded.{rounded}
+use Rattle.whole.specs.Rounded.{rounded}
 use Rattle.reading.specs.Measured.{trimmedBy}
 use Rattle.reading.specs.MeasuredLaws.{trim-product-fits, trim-sum-fits}
 use Rattle.reading.proofs.shown.trimmed.Statement.{statement}

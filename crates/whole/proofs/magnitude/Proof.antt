@@ -6,8 +6,8 @@ use borrow.Author.Needs.{needs}
 use lib.IntN.{negsuc, natAbs}
 use lib.Signed.{mag}
 use mir.Facts.{toZ-ofZ}
-use Rattle.numbers.proofs.whole.magnitude.Statement.{statement}
-use Rattle.numbers.proofs.whole.magnitude.Tie as tie
+use Rattle.whole.proofs.magnitude.Statement.{statement}
+use Rattle.whole.proofs.magnitude.Tie as tie
 
 below : (c : tie.After-below-minus-one) → negsuc (c .below-minus-one .result) ≡ c .before .before .args .z
 below c = rw (toZ-ofZ (c .before .before .fits .z)) at (c .below-minus-one .ensures)

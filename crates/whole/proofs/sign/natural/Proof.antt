@@ -8,8 +8,8 @@ use mir.Syntax.{w64}
 use mir.Val.{SFits, Fits}
 use mir.Facts.{toZ-ofZ}
 use Rattle.laws.specs.Cases.{never}
-use Rattle.numbers.proofs.sign.natural.Statement.{statement}
-use Rattle.numbers.proofs.sign.natural.Tie as tie
+use Rattle.whole.proofs.sign.natural.Statement.{statement}
+use Rattle.whole.proofs.sign.natural.Tie as tie
 
 -- by the sign of z
 natural-fits : (z : ℤ) → ltZ z (pos 0) ≡ false → SFits w64 z → T (nonNeg z) × Fits w64 (natAbs z)

@@ -7,8 +7,8 @@ use mir.Val.{SFits}
 use mir.Facts.{toZ-ofZ}
 use Rattle.laws.specs.Order.{below-zero}
 use Rattle.laws.specs.Pattern.{minus-one-less}
-use Rattle.numbers.proofs.sign.below_minus_one.Statement.{statement}
-use Rattle.numbers.proofs.sign.below_minus_one.Tie as tie
+use Rattle.whole.proofs.sign.below_minus_one.Statement.{statement}
+use Rattle.whole.proofs.sign.below_minus_one.Tie as tie
 
 distance-fits : (c : tie.Start) → SFits w64 (pos (mag (c .args .n)))
 distance-fits c = record { sfits = c .fits .n .sfits }

@@ -3,7 +3,7 @@ use crate::sign::natural;
 ghost use mathlib.Core.Path.{_≡_};
 ghost use Prim.Native.Nat.{_<_, _%_, _^_};
 ghost use lib.IntN.{pos};
-ghost use Rattle.numbers.specs.Rounded.{rounded};
+ghost use Rattle.whole.specs.Rounded.{rounded};
 
 // n / d; 0 where d is 0.
 pub fn rounded_quotient(n: u64, d: u64) -> u64

@@ -1,8 +1,8 @@
 use native.Mathlib.Omega.{arith}
 use borrow.Author.Needs.{needs}
-use Rattle.numbers.specs.RoundedLaws.{rounded-of-zero, one-more-fits, rounded-up, rounded-down}
-use Rattle.numbers.proofs.rounding.rounded_quotient.Statement.{statement}
-use Rattle.numbers.proofs.rounding.rounded_quotient.Tie as tie
+use Rattle.whole.specs.RoundedLaws.{rounded-of-zero, one-more-fits, rounded-up, rounded-down}
+use Rattle.whole.proofs.rounding.rounded_quotient.Statement.{statement}
+use Rattle.whole.proofs.rounding.rounded_quotient.Tie as tie
 
 returns : tie.Need-returns
 returns c = search (needs, rounded-of-zero)

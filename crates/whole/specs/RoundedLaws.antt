@@ -15,7 +15,7 @@ use Rattle.laws.specs.Cases.{split, positive}
 use Rattle.laws.specs.Magnitude.{difference-ge, difference-lt, magnitude-product, magnitude-sum-low, magnitude-difference-low, magnitude-negated}
 use Rattle.laws.specs.Ring.{distributive-left, associative, product-negated}
 use Rattle.laws.specs.Linear.{over, under, sum-parts, product-over, product-under, order-of-parts, parts-of-order, distance}
-use Rattle.numbers.specs.Rounded.{floorDiv, rounded}
+use Rattle.whole.specs.Rounded.{floorDiv, rounded}
 
 -- ---- floorDiv z m is the greatest q with q × m ≤ z
 

@@ -11,10 +11,10 @@ use mir.Val.{SFits}
 use mir.Facts.{toZ-ofZ}
 use Rattle.laws.specs.Magnitude.{magnitude-negated}
 use Rattle.laws.specs.Pattern.{fits-64}
-use Rattle.numbers.specs.Rounded.{rounded}
-use Rattle.numbers.specs.RoundedLaws.{rounded-high, rounded-below-zero}
-use Rattle.numbers.proofs.rounding.rounded_by.Statement.{statement}
-use Rattle.numbers.proofs.rounding.rounded_by.Tie as tie
+use Rattle.whole.specs.Rounded.{rounded}
+use Rattle.whole.specs.RoundedLaws.{rounded-high, rounded-below-zero}
+use Rattle.whole.proofs.rounding.rounded_by.Statement.{statement}
+use Rattle.whole.proofs.rounding.rounded_by.Tie as tie
 
 module _ (a d q : ℕ) (p : (0 < d) × (d % 2 ≡ 0)) (h : a < 2 ^ 63) (e : pos q ≡ rounded (pos a) d) where
   small : q ≤ 2 ^ 62

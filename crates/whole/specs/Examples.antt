@@ -2,7 +2,7 @@
 use mathlib.Core.Path.{_≡_, refl}
 use Prim.Native.Nat.{_^_}
 use lib.IntN.{pos, negℤ}
-use Rattle.numbers.specs.Rounded.{rounded}
+use Rattle.whole.specs.Rounded.{rounded}
 
 pub half : rounded (pos (2 ^ 23)) (2 ^ 24) ≡ pos 1
 unfolding rounded

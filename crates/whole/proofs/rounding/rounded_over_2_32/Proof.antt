@@ -1,7 +1,7 @@
 use borrow.Author.Needs.{needs}
 use mir.Facts.{toZ-ofZ}
-use Rattle.numbers.proofs.rounding.rounded_over_2_28.Statement.{statement}
-use Rattle.numbers.proofs.rounding.rounded_over_2_28.Tie as tie
+use Rattle.whole.proofs.rounding.rounded_over_2_32.Statement.{statement}
+use Rattle.whole.proofs.rounding.rounded_over_2_32.Tie as tie
 
 rounded-by-requires : tie.Need-rounded-by-requires
 rounded-by-requires c κs = search needs
@@ -9,5 +9,5 @@ rounded-by-requires c κs = search needs
 returns : tie.Need-returns
 returns c = rw (toZ-ofZ (record { sfits = c .rounded-by .ok })) (rw (toZ-ofZ (c .before .fits .n)) at (c .rounded-by .ensures))
 
-pub rounded-over-2-28-spec : {M : Type 1} → statement M
-rounded-over-2-28-spec = tie.close (tie.spec rounded-by-requires returns)
+pub rounded-over-2-32-spec : {M : Type 1} → statement M
+rounded-over-2-32-spec = tie.close (tie.spec rounded-by-requires returns)
