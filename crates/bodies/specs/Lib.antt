@@ -1,12 +1,7 @@
 pub mod Identity
-pub mod Set
-pub mod SetAsked
 pub mod Trim
 pub mod Note
-pub mod TestsLaws
 pub mod IdentityLaws
-pub mod SetLaws
-pub mod GridLaws
 pub mod TrimLaws
 pub mod NoteLaws
 pub mod Examples

@@ -1,11 +1,11 @@
 use super::Identity;
-use super::outside;
-use super::refused;
 use numbers::fields::number1;
 use numbers::fields::number2;
 use numbers::fields::number4;
 use numbers::fields::signed4;
 use refusals::Verdict;
+use refusals::refused;
+use whole::outside;
 ghost use mathlib.Core.Path.{_≡_};
 ghost use mathlib.Core.Bool.{cond};
 ghost use Prim.Native.Nat.{_≤_};
@@ -30,28 +30,28 @@ pub fn identity_verdict(body: &[u8]) -> Verdict
     ensures { λ r. ⌜ r ≡ identityVerdict (now (body .entry)) ⌝ }
 {
     if body.len() != 24 {
-        return refused(11);
+        return refused(11, 0);
     }
     let year = number2(body, 4);
     if outside(1980, year as u64, 2099) {
-        return refused(11);
+        return refused(11, 0);
     }
     let month = number1(body, 6);
     if outside(1, month as u64, 12) {
-        return refused(11);
+        return refused(11, 0);
     }
     if outside(1, number1(body, 7) as u64, days_in(year, month) as u64) {
-        return refused(11);
+        return refused(11, 0);
     }
     let tmin = signed4(body, 8);
     let tmax = signed4(body, 12);
     if tmax < tmin {
-        return refused(11);
+        return refused(11, 0);
     }
     let pmin = signed4(body, 16);
     let pmax = signed4(body, 20);
     if pmax < pmin {
-        return refused(11);
+        return refused(11, 0);
     }
     Verdict::Accepted
 }

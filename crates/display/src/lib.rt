@@ -1,9 +1,9 @@
 // What the show program prints of a HEX text: the verdict of each level on its image.
 use bodies::Identity;
-use bodies::Set;
 use refusals::Filled;
 use refusals::Refusal;
 use refusals::Verdict;
+use sets::Set;
 
 fn number(n: u64) {
     io::print_decimal(1, n);
@@ -48,8 +48,8 @@ fn print_verdict(level: u32, subject: &[u8], image: &[u8]) {
         Verdict::Accepted => {
             io::write_all(1, subject);
             print_identity(bodies::read_identity(finder::find(image, 1)));
-            print_orders(b" pressure ", bodies::read_set(finder::find(image, 2)));
-            print_orders(b" temperature ", bodies::read_set(finder::find(image, 3)));
+            print_orders(b" pressure ", sets::read_set(finder::find(image, 2)));
+            print_orders(b" temperature ", sets::read_set(finder::find(image, 3)));
             io::write_all(1, b"\n");
         }
         Verdict::Refused(refusal) => print_refusal(subject, refusal),

@@ -1,18 +1,11 @@
 ghost use mathlib.Core.Path.{_≡_};
 ghost use Prim.Native.Nat.{_<_};
-ghost use Rattle.refusals.specs.Refusals.{refusal};
 ghost use Rattle.image.specs.Layout.{startVerdict, countVerdict, lineRight};
 ghost use Rattle.layout.specs.Checks.{allLines, sumRight, allSums};
 use numbers::fields;
 use numbers::slices;
-use refusals::Refusal;
 use refusals::Verdict;
-
-fn refused(number: u32, detail: u64) -> Verdict
-    ensures { λ r. ⌜ r ≡ Verdict.Refused (refusal number detail) ⌝ }
-{
-    Verdict::Refused(Refusal { number, detail })
-}
+use refusals::refused;
 
 // Refusal 5.
 pub fn start(image: &[u8]) -> Verdict

@@ -7,7 +7,7 @@ use Rattle.refusals.specs.declared.Verdict.the-variants.{Accepted, Refused as N
 use Rattle.image.specs.Sections.{Section, sections}
 use Rattle.image.specs.Find.{bodyOf, orElse}
 use Rattle.bodies.specs.Identity.{identityOf}
-use Rattle.bodies.specs.Set.{setOf, gridOf}
+use Rattle.sets.specs.Set.{setOf, gridOf}
 use Rattle.bodies.specs.Trim.{trimOf}
 use Rattle.reading.specs.declared.Counts.{Counts}
 use Rattle.reading.specs.declared.Answer.{Answer}

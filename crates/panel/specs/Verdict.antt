@@ -11,7 +11,7 @@ use Rattle.image.specs.Layout.{layoutVerdict}
 use Rattle.image.specs.Sections.{Section, sections}
 use Rattle.image.specs.Find.{bodyOf, isThere}
 use Rattle.bodies.specs.Identity.{identityVerdict}
-use Rattle.bodies.specs.Set.{setVerdict}
+use Rattle.sets.specs.Set.{setVerdict}
 use Rattle.bodies.specs.Trim.{trimVerdict}
 use Rattle.bodies.specs.Note.{noteVerdict}
 use Rattle.panel.specs.Levels.{isLevel, knows, mayPass}

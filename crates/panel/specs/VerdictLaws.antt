@@ -22,7 +22,7 @@ use Rattle.finder.specs.declared.Place.the-variants.{At, Nowhere}
 use Rattle.finder.specs.Places.{statedPlace}
 use Rattle.finder.specs.PlacesLaws.{body-said}
 use Rattle.bodies.specs.Identity.{identityVerdict}
-use Rattle.bodies.specs.Set.{setVerdict}
+use Rattle.sets.specs.Set.{setVerdict}
 use Rattle.bodies.specs.Trim.{trimVerdict}
 use Rattle.bodies.specs.Note.{noteVerdict}
 use Rattle.panel.specs.Levels.{isLevel, knows, mayPass}

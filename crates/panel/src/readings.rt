@@ -34,10 +34,10 @@ fn measured(image: &[u8], counts: Counts) -> Answer
     reading::measured(
         counts,
         identity,
-        bodies::read_set(pressure),
-        bodies::read_grid(pressure),
-        bodies::read_set(temperature),
-        bodies::read_grid(temperature),
+        sets::read_set(pressure),
+        sets::read_grid(pressure),
+        sets::read_set(temperature),
+        sets::read_grid(temperature),
         trimming(image),
     )
 }

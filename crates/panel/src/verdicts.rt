@@ -1,20 +1,13 @@
 use crate::levels;
 use finder::Place;
-use refusals::Refusal;
 use refusals::Verdict;
+use refusals::refused;
 ghost use mathlib.Core.Path.{_≡_};
 ghost use Prim.Native.Nat.{_<_};
-ghost use Rattle.refusals.specs.Refusals.{refusal};
 ghost use Rattle.image.specs.Layout.{layoutVerdict};
 ghost use Rattle.image.specs.Sections.{sections};
 ghost use Rattle.panel.specs.BodiesLaws.{lineVerdict};
 ghost use Rattle.panel.specs.Verdict.{levelVerdict, unknownVerdict, presentVerdict, missingVerdict, kindVerdict, bodiesVerdict, sectionsVerdict, verdictOf};
-
-fn refused(number: u32, detail: u64) -> Verdict
-    ensures { λ r. ⌜ r ≡ Verdict.Refused (refusal number detail) ⌝ }
-{
-    Verdict::Refused(Refusal { number, detail })
-}
 
 // Refusal 20.
 fn level_verdict(level: u32) -> Verdict
@@ -73,7 +66,7 @@ fn kind_verdict(kind: u32, body: &[u8]) -> Verdict
 {
     match kind {
         1 => bodies::identity_verdict(body),
-        2 | 3 => bodies::set_verdict(body, kind + 10),
+        2 | 3 => sets::set_verdict(body, kind + 10),
         4 => bodies::trim_verdict(body),
         129 => bodies::note_verdict(body),
         _ => Verdict::Accepted,

@@ -20,11 +20,11 @@ use Rattle.image.specs.Layout.{layoutVerdict}
 use Rattle.builder.specs.declared.Line.{Line}
 use Rattle.builder.specs.Build.{buildImage}
 use Rattle.bodies.specs.Identity.{identityFields, identityVerdict}
-use Rattle.bodies.specs.Set.{setFields, setVerdict}
+use Rattle.sets.specs.Set.{setFields, setVerdict}
 use Rattle.bodies.specs.Trim.{trimFields, trimVerdict}
 use Rattle.bodies.specs.Note.{noteFields, noteVerdict}
 use Rattle.bodies.specs.declared.Identity.{Identity}
-use Rattle.bodies.specs.declared.Set.{Set}
+use Rattle.sets.specs.declared.Set.{Set}
 use Rattle.reading.specs.declared.Counts.{Counts}
 use Rattle.reading.specs.declared.Reading.{Reading}
 use Rattle.reading.specs.declared.Answer.{Answer}

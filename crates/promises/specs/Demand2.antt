@@ -27,7 +27,7 @@ use Rattle.builder.specs.Build.{sectionsOf, buildImage}
 use Rattle.builder.specs.Lines.{linesOf, noLine, bodyGiven}
 use Rattle.builder.specs.Built.{Built, built-exactly, built-found, built-found-line, good-built}
 use Rattle.bodies.specs.Identity.{identityOf}
-use Rattle.bodies.specs.Set.{setOf, gridOf}
+use Rattle.sets.specs.Set.{setOf, gridOf}
 use Rattle.reading.specs.declared.Counts.{Counts}
 use Rattle.reading.specs.declared.Reading.{Reading}
 use Rattle.reading.specs.declared.Answer.the-variants.{Shown}

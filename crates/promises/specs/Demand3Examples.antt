@@ -21,7 +21,7 @@ use Rattle.image.specs.Find.{bodyOf, found}
 use Rattle.builder.specs.Build.{buildImage}
 use Rattle.builder.specs.Lines.{linesOf}
 use Rattle.bodies.specs.Identity.{identityOf, daysIn, identityFields}
-use Rattle.bodies.specs.Set.{setOf, coefficientFields, setFields, rowFrom, rowsFrom}
+use Rattle.sets.specs.Set.{setOf, coefficientFields, setFields, rowFrom, rowsFrom}
 use Rattle.bodies.specs.Trim.{trimOf, trimFields}
 use Rattle.reading.specs.declared.Reading.{Reading}
 use Rattle.reading.specs.declared.Answer.the-variants.{Shown, Refused}

@@ -7,7 +7,7 @@ use lib.IntN.{ℤ}
 use Rattle.image.specs.Sections.{sections}
 use Rattle.image.specs.Find.{bodyOf}
 use Rattle.bodies.specs.Identity.{identityOf}
-use Rattle.bodies.specs.Set.{setOf}
+use Rattle.sets.specs.Set.{setOf}
 use Rattle.reading.specs.declared.Counts.{Counts}
 use Rattle.reading.specs.declared.Reading.{Reading}
 use Rattle.reading.specs.declared.Answer.the-variants.{Shown}

@@ -7,7 +7,7 @@ use lib.IntN.{ℤ}
 use Rattle.refusals.specs.declared.Verdict.{Verdict}
 use Rattle.refusals.specs.declared.Verdict.the-variants.{Accepted, Refused as NotAccepted}
 use Rattle.image.specs.Sections.{sections}
-use Rattle.bodies.specs.Set.{setOf, gridOf}
+use Rattle.sets.specs.Set.{setOf, gridOf}
 use Rattle.reading.specs.declared.Counts.{Counts}
 use Rattle.reading.specs.declared.Reading.{Reading}
 use Rattle.reading.specs.declared.Answer.{Answer}

@@ -9,8 +9,8 @@ use lib.Signed.{leZ}
 use Rattle.laws.specs.Cases.{decide}
 use Rattle.refusals.specs.Refusals.{ask}
 use Rattle.bodies.specs.declared.Identity.{Identity}
-use Rattle.bodies.specs.declared.Prescale.{Prescale}
-use Rattle.bodies.specs.declared.Set.{Set}
+use Rattle.sets.specs.declared.Prescale.{Prescale}
+use Rattle.sets.specs.declared.Set.{Set}
 use Rattle.reading.specs.declared.Counts.{Counts}
 use Rattle.reading.specs.declared.Trimming.{Trimming}
 use Rattle.reading.specs.declared.value.Value.the-variants.{Known}

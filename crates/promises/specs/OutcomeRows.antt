@@ -15,7 +15,7 @@ use Rattle.image.specs.Sections.{imageOf}
 use Rattle.builder.specs.declared.Line.{Line}
 use Rattle.builder.specs.Build.{sectionsOf, kindsRise, lengthsTotal, imageLength, buildVerdict, buildImage}
 use Rattle.bodies.specs.declared.Identity.{Identity}
-use Rattle.bodies.specs.declared.Set.{Set}
+use Rattle.sets.specs.declared.Set.{Set}
 use Rattle.reading.specs.declared.Counts.{Counts}
 use Rattle.reading.specs.declared.Trimming.{Trimming}
 use Rattle.reading.specs.declared.Trimming.the-variants.{Untrimmed, By}

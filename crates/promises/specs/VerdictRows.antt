@@ -22,7 +22,7 @@ use Rattle.image.specs.Sections.{Section, sections}
 use Rattle.image.specs.Find.{bodyOf}
 use Rattle.image.specs.OrderLaws.{sections-ascend}
 use Rattle.bodies.specs.Identity.{identityFields}
-use Rattle.bodies.specs.Set.{setFields}
+use Rattle.sets.specs.Set.{setFields}
 use Rattle.bodies.specs.Trim.{trimOf, trimFields, trimVerdict}
 use Rattle.bodies.specs.Note.{noteFields}
 use Rattle.reading.specs.declared.Counts.{Counts}

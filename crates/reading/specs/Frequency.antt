@@ -6,7 +6,7 @@ use lib.IntN.{ℤ, pos, _-ℤ_, _*ℤ_}
 use lib.Signed.{leZ}
 use Rattle.whole.specs.Rounded.{rounded}
 use Rattle.refusals.specs.Refusals.{ask}
-use Rattle.bodies.specs.declared.Prescale.{Prescale}
+use Rattle.sets.specs.declared.Prescale.{Prescale}
 use Rattle.reading.specs.declared.value.Value.{Value}
 use Rattle.reading.specs.declared.value.Value.the-variants.{Known}
 use Rattle.reading.specs.Value.{given, within}

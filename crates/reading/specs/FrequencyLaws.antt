@@ -18,7 +18,7 @@ use Rattle.laws.specs.Pattern.{fits-64}
 use Rattle.whole.specs.Rounded.{rounded}
 use Rattle.whole.specs.RoundedLaws.{rounded-low}
 use Rattle.refusals.specs.Refusals.{refusal, ask}
-use Rattle.bodies.specs.declared.Prescale.{Prescale}
+use Rattle.sets.specs.declared.Prescale.{Prescale}
 use Rattle.reading.specs.declared.value.Value.{Value}
 use Rattle.reading.specs.declared.value.Value.the-variants.{Known, Refused}
 use Rattle.reading.specs.Value.{given, within}

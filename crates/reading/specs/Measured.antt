@@ -8,7 +8,7 @@ use lib.Signed.{ltZ}
 use Rattle.whole.specs.Rounded.{rounded}
 use Rattle.refusals.specs.Refusals.{refusal}
 use Rattle.bodies.specs.declared.Identity.{Identity}
-use Rattle.bodies.specs.declared.Set.{Set}
+use Rattle.sets.specs.declared.Set.{Set}
 use Rattle.bodies.specs.declared.Trim.{Trim}
 use Rattle.reading.specs.declared.Channel.{Channel}
 use Rattle.reading.specs.declared.Counts.{Counts}

@@ -15,7 +15,7 @@ use Rattle.whole.specs.Rounded.{rounded}
 use Rattle.whole.specs.RoundedLaws.{rounded-high}
 use Rattle.refusals.specs.declared.Refusal.{Refusal}
 use Rattle.bodies.specs.declared.Identity.{Identity}
-use Rattle.bodies.specs.declared.Set.{Set}
+use Rattle.sets.specs.declared.Set.{Set}
 use Rattle.reading.specs.declared.Answer.{Answer}
 use Rattle.reading.specs.declared.Answer.the-variants.{Refused as NotShown}
 use Rattle.reading.specs.declared.value.Value.{Value}

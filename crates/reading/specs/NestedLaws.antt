@@ -9,8 +9,8 @@ use lib.IntN.{ℤ, pos, natAbs, _+ℤ_, _*ℤ_, +ℤ-idr}
 use Rattle.whole.specs.Rounded.{rounded}
 use Rattle.refusals.specs.declared.Refusal.{Refusal}
 use Rattle.refusals.specs.Refusals.{refusal, ask}
-use Rattle.bodies.specs.declared.Set.{Set}
-use Rattle.bodies.specs.Set.{gridPlace, rowFrom, rowsFrom, gridOf}
+use Rattle.sets.specs.declared.Set.{Set}
+use Rattle.sets.specs.Set.{gridPlace, rowFrom, rowsFrom, gridOf}
 use Rattle.reading.specs.declared.value.Value.{Value}
 use Rattle.reading.specs.declared.value.Value.the-variants.{Known, Refused}
 use Rattle.reading.specs.Value.{given, withValue, within}

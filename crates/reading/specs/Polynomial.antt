@@ -3,8 +3,8 @@ use mathlib.Core.List.{List, [], _∷_}
 use Prim.Native.Nat.{ℕ, _+_, _^_}
 use lib.IntN.{ℤ, pos, _+ℤ_, _*ℤ_}
 use Rattle.whole.specs.Rounded.{rounded}
-use Rattle.bodies.specs.declared.Prescale.{Prescale}
-use Rattle.bodies.specs.declared.Set.{Set}
+use Rattle.sets.specs.declared.Prescale.{Prescale}
+use Rattle.sets.specs.declared.Set.{Set}
 use Rattle.reading.specs.declared.value.Value.{Value}
 use Rattle.reading.specs.declared.value.Value.the-variants.{Known}
 use Rattle.reading.specs.Value.{withValue, within}

@@ -3,7 +3,7 @@ use crate::SensorCycles;
 use crate::value::Value;
 use crate::value::limited;
 use crate::value::refused;
-use bodies::Prescale;
+use sets::Prescale;
 ghost use mathlib.Core.Path.{_≡_};
 ghost use Prim.Native.Nat.{_≤_};
 ghost use lib.IntN.{natAbs};

@@ -8,7 +8,7 @@ use crate::shown::mark;
 use crate::shown::show;
 use crate::value::Value;
 use bodies::Identity;
-use bodies::Set;
+use sets::Set;
 ghost use mathlib.Core.Path.{_≡_};
 ghost use Prim.Native.Nat.{_≤_, _^_};
 ghost use lib.IntN.{natAbs};

@@ -4,4 +4,5 @@ pub mod Told
 pub mod RefusalsLaws
 pub mod VerdictLaws
 pub mod FieldsVerdictLaws
+pub mod TestsLaws
 pub mod ToldLaws

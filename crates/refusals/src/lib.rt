@@ -1,5 +1,6 @@
 // How anything is refused, and what a lent buffer then holds.
-ghost use Rattle.refusals.specs.Refusals.{Settled};
+ghost use mathlib.Core.Path.{_≡_};
+ghost use Rattle.refusals.specs.Refusals.{refusal, Settled};
 
 // Answers for C.
 mod told;
@@ -19,6 +20,12 @@ pub struct Refusal {
 pub enum Verdict {
     Accepted,
     Refused(Refusal),
+}
+
+pub fn refused(number: u32, detail: u64) -> Verdict
+    ensures { λ r. ⌜ r ≡ Verdict.Refused (refusal number detail) ⌝ }
+{
+    Verdict::Refused(Refusal { number, detail })
 }
 
 // What the filling of a lent buffer answers: how many bytes from its start are the result, or why there is none.

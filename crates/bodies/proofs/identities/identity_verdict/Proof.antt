@@ -2,7 +2,7 @@ use borrow.Author.Needs.{needs}
 use Rattle.refusals.specs.FieldsVerdictLaws.{past-right, stop-at-wrong, all-right, judged}
 use Rattle.bodies.specs.Identity.{identityFields}
 use Rattle.bodies.specs.IdentityLaws.{days-of}
-use Rattle.bodies.specs.TestsLaws.{equal, unequal, outside-told, read-as, above-told, not-below, not-above}
+use Rattle.refusals.specs.TestsLaws.{equal, unequal, outside-told, read-as, above-told, not-below, not-above}
 use Rattle.bodies.proofs.identities.identity_verdict.Statement.{statement}
 use Rattle.bodies.proofs.identities.identity_verdict.Tie as tie
 

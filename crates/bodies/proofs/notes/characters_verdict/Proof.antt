@@ -3,7 +3,7 @@ use native.Mathlib.Omega.{arith}
 use borrow.Author.Needs.{needs}
 use lib.ListN.{length}
 use Rattle.refusals.specs.FieldsVerdictLaws.{judged}
-use Rattle.bodies.specs.TestsLaws.{outside-told}
+use Rattle.refusals.specs.TestsLaws.{outside-told}
 use Rattle.bodies.specs.NoteLaws.{Characters, characters-first, characters-more, characters-wrong, characters-end}
 use Rattle.bodies.proofs.notes.characters_verdict.Statement.{statement}
 use Rattle.bodies.proofs.notes.characters_verdict.Tie as tie

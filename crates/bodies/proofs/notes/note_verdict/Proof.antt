@@ -1,7 +1,7 @@
 use borrow.Author.Needs.{needs}
 use Rattle.refusals.specs.FieldsVerdictLaws.{past-right, stop-at-wrong, judged}
 use Rattle.bodies.specs.Note.{noteFields}
-use Rattle.bodies.specs.TestsLaws.{outside-told}
+use Rattle.refusals.specs.TestsLaws.{outside-told}
 use Rattle.bodies.proofs.notes.note_verdict.Statement.{statement}
 use Rattle.bodies.proofs.notes.note_verdict.Tie as tie
 

@@ -1,7 +1,7 @@
 use borrow.Author.Needs.{needs}
 use Rattle.refusals.specs.FieldsVerdictLaws.{past-right, stop-at-wrong, all-right, judged}
 use Rattle.bodies.specs.Trim.{trimFields}
-use Rattle.bodies.specs.TestsLaws.{equal, unequal, same, other, outside-told, beyond-told, read-as}
+use Rattle.refusals.specs.TestsLaws.{equal, unequal, same, other, outside-told, beyond-told, read-as}
 use Rattle.bodies.proofs.trims.trim_verdict.Statement.{statement}
 use Rattle.bodies.proofs.trims.trim_verdict.Tie as tie
 

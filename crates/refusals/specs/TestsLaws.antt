@@ -1,0 +1,63 @@
+-- What a test in the code tells of a field: x is what the code read, and the field is defined of n, or of z where it is signed.
+use mathlib.Core.Path.{_≡_, sym, ap, _∙_}
+use mathlib.Core.Bool.{Bool, true, false, not, _&&_}
+use Prim.Native.Nat.{ℕ, _^_, _≤_, _<_}
+use borrow.Author.Tests.{eq-eqb, ne-eqb, le-leb, lt-leb, leb-true, not-false}
+use lib.Dec.{leb, eqb}
+use lib.IntN.{ℤ, natAbs}
+use lib.Signed.{mag, ltZ, leZ}
+use mir.Syntax.{Width}
+use mir.Val.{toZ, ofZ, hbits}
+use Rattle.laws.specs.Cases.{both-left, both-right}
+use Rattle.laws.specs.Order.{less-otherwiseℤ}
+use Rattle.laws.specs.Pattern.{read-back}
+use Rattle.refusals.specs.FieldsVerdictLaws.{Wrong}
+
+-- ---- numbers
+
+pub equal : (n k : ℕ) → n ≡ k → Wrong (eqb n k) false
+equal n k h = record { tells = sym (ap not (eq-eqb n k h)) }
+
+pub unequal : (n k : ℕ) → (n ≡ k → ⊥) → Wrong (eqb n k) true
+unequal n k h = record { tells = sym (ap not (ne-eqb n k h)) }
+
+module _ (x n k : ℕ) where
+  pub same : x ≡ k → x ≡ n → Wrong (eqb n k) false
+  same h e = equal n k (sym e ∙ h)
+
+  pub other : (x ≡ k → ⊥) → x ≡ n → Wrong (eqb n k) true
+  other h e = unequal n k (λ (f : n ≡ k). h (e ∙ f))
+
+  pub at-most : x ≤ k → x ≡ n → Wrong (leb n k) false
+  at-most h e = record { tells = sym (ap not (le-leb n k (rw e at h))) }
+
+  pub more : k < x → x ≡ n → Wrong (leb n k) true
+  more h e = record { tells = sym (ap not (lt-leb n k (rw e at h))) }
+
+-- b is what a function of the code answered
+module _ (b told : Bool) where
+  pub outside-told : (low x high n bound : ℕ) → b ≡ not (leb low x && leb x high) → b ≡ told → x ≡ n → high ≡ bound → Wrong (leb low n && leb n bound) told
+  outside-told low x high n bound e h f g = record { tells = sym h ∙ rw (f, g) at e }
+
+  pub beyond-told : (x z : ℤ) (limit : ℕ) → b ≡ not (leb (natAbs x) limit) → b ≡ told → x ≡ z → Wrong (leb (natAbs z) limit) told
+  beyond-told x z limit e h f = record { tells = sym h ∙ rw f at e }
+
+-- a number that is not outside lies within
+module _ (b : Bool) (low x high : ℕ) (e : b ≡ not (leb low x && leb x high)) (h : b ≡ false) where
+  inside : (leb low x && leb x high) ≡ true
+  inside = not-false (leb low x && leb x high) (sym e ∙ h)
+
+  pub not-below : low ≤ x
+  not-below = leb-true low x (both-left (leb low x) (leb x high) inside)
+
+  pub not-above : x ≤ high
+  not-above = leb-true x high (both-right (leb low x) (leb x high) inside)
+
+-- ---- signed numbers
+
+-- one is read back from its bits before it is tested or handed on
+pub read-as : (w : Width) (x z : ℤ) → mag x < 2 ^ hbits w → x ≡ z → toZ w (ofZ w x) ≡ z
+read-as w x z h e = read-back w x h ∙ e
+
+pub above-told : (x y least greatest : ℤ) (told : Bool) → ltZ y x ≡ told → x ≡ least → y ≡ greatest → Wrong (leZ least greatest) told
+above-told x y least greatest told h e f = record { tells = sym h ∙ rw (e, f) (less-otherwiseℤ least greatest) }

@@ -1,0 +1,66 @@
+use Prim.Native.Nat.{_-_}
+use borrow.Author.Needs.{needs}
+use Rattle.refusals.specs.FieldsVerdictLaws.{judged}
+use Rattle.refusals.specs.TestsLaws.{beyond-told, read-as}
+use Rattle.sets.specs.SetLaws.{Coefficients, coefficients-first, coefficients-more, coefficients-wrong, coefficients-end}
+use Rattle.sets.proofs.coefficients_verdict.Statement.{statement}
+use Rattle.sets.proofs.coefficients_verdict.Tie as tie
+
+ruleset laws = (needs, judged, beyond-told, read-as, coefficients-first, coefficients-more, coefficients-wrong, coefficients-end)
+
+abbrev Inv-loop : tie.InvT-loop
+Inv-loop body count number i₀ i = Coefficients number body count i
+
+abbrev μ-loop : tie.MeasureT-loop
+μ-loop body count number i₀ i = count - i
+
+loop-holds : tie.Need-loop-holds Inv-loop μ-loop
+loop-holds c = search laws
+
+mul-coefficient : tie.Need-mul-coefficient Inv-loop μ-loop
+mul-coefficient c = search laws
+
+add-coefficient : tie.Need-add-coefficient Inv-loop μ-loop
+add-coefficient c = search laws
+
+coefficient-requires : tie.Need-coefficient-requires Inv-loop μ-loop
+coefficient-requires c κs = search laws
+
+beyond-requires : tie.Need-beyond-requires Inv-loop μ-loop
+beyond-requires c κs = search laws
+
+refused-requires : tie.Need-refused-requires Inv-loop μ-loop
+refused-requires c κs = search laws
+
+returns : tie.Need-returns Inv-loop μ-loop
+returns c = search laws
+
+add-i : tie.Need-add-i Inv-loop μ-loop
+add-i c = search laws
+
+loop-less : tie.Need-loop-less Inv-loop μ-loop
+loop-less c = search laws
+
+loop-again : tie.Need-loop-again Inv-loop μ-loop
+loop-again c = search laws
+
+returns-2 : tie.Need-returns-2 Inv-loop μ-loop
+returns-2 c = search laws
+
+pub coefficients-verdict-spec : {M : Type 1} → statement M
+coefficients-verdict-spec =
+    tie.close
+    (tie.spec
+    Inv-loop
+    μ-loop
+    loop-holds
+    mul-coefficient
+    add-coefficient
+    coefficient-requires
+    beyond-requires
+    refused-requires
+    returns
+    add-i
+    loop-less
+    loop-again
+    returns-2)

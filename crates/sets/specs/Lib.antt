@@ -1,0 +1,4 @@
+pub mod Set
+pub mod SetAsked
+pub mod SetLaws
+pub mod GridLaws

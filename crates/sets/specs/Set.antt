@@ -1,0 +1,87 @@
+-- Kinds 2 and 3, pressure set and temperature set, 28 + 8 N bytes.
+use mathlib.Core.Bool.{Bool, cond, _&&_}
+use mathlib.Core.List.{List, [], _∷_}
+use Prim.Native.Nat.{ℕ, zero, suc, _+_, _*_, _^_}
+use lib.Dec.{leb, eqb}
+use lib.IntN.{ℤ, pos, natAbs}
+use lib.ListN.{length}
+use Rattle.numbers.specs.Fields.{numberAt, signedAt}
+use Rattle.refusals.specs.declared.Verdict.{Verdict}
+use Rattle.refusals.specs.Refusals.{fieldsVerdict}
+use Rattle.sets.specs.declared.Set.{Set}
+
+-- the orders NP and NT
+abbrev pub pressureOrder : List ℕ → ℕ
+pressureOrder body = numberAt 1 body 2
+
+abbrev pub temperatureOrder : List ℕ → ℕ
+temperatureOrder body = numberAt 1 body 3
+
+-- MP, FP0, MT, FT0
+unfoldable pub setOf : List ℕ → Set
+setOf body =
+    record {
+      pressure = record { order = pressureOrder body; multiplier = numberAt 4 body 4; offset = numberAt 8 body 8 };
+      temperature = record { order = temperatureOrder body; multiplier = numberAt 4 body 16; offset = numberAt 8 body 20 };
+    }
+
+-- N, and the coefficients, from A0 on
+abbrev pub coefficientCount : List ℕ → ℕ
+coefficientCount body = (pressureOrder body + 1) * (temperatureOrder body + 1)
+
+abbrev pub coefficientAt : List ℕ → ℕ → ℤ
+coefficientAt body i = signedAt 8 body (28 + 8 * i)
+
+-- ---- is it right
+
+-- a multiplier is 1 to 2^30 and an offset 0 to 6,553,600,000; both are 0 where the order is 0
+abbrev pub multiplierRight : (order multiplier : ℕ) → Bool
+multiplierRight order multiplier = cond (eqb order 0) (eqb multiplier 0) (leb 1 multiplier && leb multiplier (2 ^ 30))
+
+abbrev pub offsetRight : (order offset : ℕ) → Bool
+offsetRight order offset = cond (eqb order 0) (eqb offset 0) (leb offset 6553600000)
+
+-- the coefficients left from the i-th on, each from -2^34 to 2^34
+unfoldable pub coefficientFields : List ℕ → (left i : ℕ) → List Bool
+coefficientFields body zero i = []
+coefficientFields body (suc left) i = leb (natAbs (coefficientAt body i)) (2 ^ 34) ∷ coefficientFields body left (i + 1)
+
+-- the algorithms of both prescales, the orders, the length, multiplier and offset of each, the coefficients
+unfoldable pub setFields : List ℕ → List Bool
+setFields body =
+    eqb (numberAt 1 body 0) 1
+    ∷ eqb (numberAt 1 body 1) 1
+    ∷ leb (pressureOrder body) 4
+    ∷ leb (temperatureOrder body) 4
+    ∷ eqb (length body) (28 + 8 * coefficientCount body)
+    ∷ multiplierRight (pressureOrder body) (numberAt 4 body 4)
+    ∷ offsetRight (pressureOrder body) (numberAt 8 body 8)
+    ∷ multiplierRight (temperatureOrder body) (numberAt 4 body 16)
+    ∷ offsetRight (temperatureOrder body) (numberAt 8 body 20)
+    ∷ coefficientFields body (coefficientCount body) 0
+
+-- 12 for the pressure set, 13 for the temperature set
+abbrev pub setVerdict : (number : ℕ) → List ℕ → Verdict
+setVerdict number body = fieldsVerdict number (setFields body)
+
+-- ---- the grid
+
+-- five rows of five, in the body's order, absent places 0: row 0 is A0, A1, .., row 1 is B0, ..
+-- A body too short for its orders, which no verdict accepts, fills no place.
+abbrev pub gridPlace : List ℕ → (row place : ℕ) → ℤ
+gridPlace body row place =
+    cond (leb (28 + 8 * coefficientCount body) (length body) && leb row (pressureOrder body) && leb place (temperatureOrder body))
+    (coefficientAt body (row * (temperatureOrder body + 1) + place))
+    (pos 0)
+
+-- the places left of a row from one on, and the rows left from one on
+unfoldable pub rowFrom : List ℕ → (row left place : ℕ) → List ℤ
+rowFrom body row zero place = []
+rowFrom body row (suc left) place = gridPlace body row place ∷ rowFrom body row left (place + 1)
+
+unfoldable pub rowsFrom : List ℕ → (left row : ℕ) → List (List ℤ)
+rowsFrom body zero row = []
+rowsFrom body (suc left) row = rowFrom body row 5 0 ∷ rowsFrom body left (row + 1)
+
+abbrev pub gridOf : List ℕ → List (List ℤ)
+gridOf body = rowsFrom body 5 0
