@@ -13,11 +13,11 @@ use Rattle.refusals.specs.Told.{filledTold, ToldFills}
 use Rattle.image.specs.Find.{Found}
 
 -- The one law: a contract is an equation with a definition. By it alone, every public function that is not named below:
--- layout::layout; finder::stated, place_of, has; bodies::identity_verdict, read_identity, set_verdict, read_set, read_grid,
--- trim_verdict, read_trim, note_verdict; reading::measured; panel::verdict, panel::reading; numbers::fields::number1, number2, number4,
--- number8, signed4, signed8; numbers::slices::byte_sum, clear_from (of the buffer); numbers::whole::magnitude;
--- numbers::rounding::rounded_over_2_24, rounded_over_2_28, rounded_over_2_32; refusals::tell_verdict, tell_filled; finder::tell_place;
--- reading::tell_answer; bjorkneve_layout, bjorkneve_verdict, bjorkneve_find, bjorkneve_reading.
+-- whole::magnitude, outside, beyond; whole::rounding::rounded_over_2_24, rounded_over_2_28, rounded_over_2_32; numbers::fields::number1,
+-- number2, number4, number8, signed4, signed8, signed_of_8; numbers::slices::byte_sum, clear_from (of the buffer); refusals::refused,
+-- tell_verdict, tell_filled; layout::layout; finder::stated, place_of, has, tell_place; sets::set_verdict, read_set, read_grid;
+-- bodies::identity_verdict, read_identity, trim_verdict, read_trim, note_verdict; reading::measured, tell_answer; panel::verdict,
+-- panel::reading; bjorkneve_layout, bjorkneve_verdict, bjorkneve_find, bjorkneve_reading.
 pub determined : {A : Type 0} (r r′ said : A) → r ≡ said → r′ ≡ said → r ≡ r′
 determined r r′ said e f = e ∙ sym f
 
@@ -57,6 +57,6 @@ pub part-determined : (s r r′ : RefT (List ℕ)) (start count : ℕ) → IsPar
     → (now r ≡ now r′) × (ptr r .0 ≡ ptr r′ .0) × (ptr r .1 ≡ ptr r′ .1)
 part-determined s r r′ start count f g = (determined _ _ _ (f .holds) (g .holds), determined _ _ _ (f .block) (g .block), determined _ _ _ (f .place) (g .place))
 
--- One says so of its number as a whole one: numbers::rounding::rounded_quotient.
+-- One says so of its number as a whole one: whole::rounding::rounded_quotient.
 pub whole-determined : (r r′ : ℕ) (said : ℤ) → pos r ≡ said → pos r′ ≡ said → r ≡ r′
 whole-determined r r′ said e f = ap natAbs (determined (pos r) (pos r′) said e f)
