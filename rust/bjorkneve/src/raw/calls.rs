@@ -1,0 +1,104 @@
+//! The C functions on slices. Borrowing is what makes each call safe: a slice
+//! is readable for its whole length, a lent one is writable and apart from the
+//! others, and the functions keep no pointer.
+
+use super::declarations as c;
+use super::{BjorkneveAnswer, BjorkneveFilled, BjorknevePlace, BjorkneveVerdict};
+use crate::{Channel, Counts, ReferenceCycles, SensorCycles};
+
+/// `bjorkneve_read`.
+#[inline]
+pub fn read(text: &[u8], image: &mut [u8]) -> BjorkneveFilled {
+    // SAFETY: both pointers are good for the lengths beside them, the lent
+    // image overlaps nothing, and neither is kept.
+    unsafe { c::bjorkneve_read(text.as_ptr(), text.len(), image.as_mut_ptr(), image.len()) }
+}
+
+/// `bjorkneve_write`.
+#[inline]
+pub fn write(image: &[u8], text: &mut [u8]) -> BjorkneveFilled {
+    // SAFETY: both pointers are good for the lengths beside them, the lent
+    // text overlaps nothing, and neither is kept.
+    unsafe { c::bjorkneve_write(image.as_ptr(), image.len(), text.as_mut_ptr(), text.len()) }
+}
+
+/// `bjorkneve_load`.
+#[inline]
+pub fn load(text: &[u8], level: u32, image: &mut [u8]) -> BjorkneveFilled {
+    // SAFETY: both pointers are good for the lengths beside them, the lent
+    // image overlaps nothing, and neither is kept.
+    unsafe {
+        c::bjorkneve_load(
+            text.as_ptr(),
+            text.len(),
+            level,
+            image.as_mut_ptr(),
+            image.len(),
+        )
+    }
+}
+
+/// `bjorkneve_layout`.
+#[inline]
+pub fn layout(image: &[u8]) -> BjorkneveVerdict {
+    // SAFETY: the pointer is good for reading the length beside it.
+    unsafe { c::bjorkneve_layout(image.as_ptr(), image.len()) }
+}
+
+/// `bjorkneve_verdict`.
+#[inline]
+pub fn verdict(image: &[u8], level: u32) -> BjorkneveVerdict {
+    // SAFETY: the pointer is good for reading the length beside it.
+    unsafe { c::bjorkneve_verdict(image.as_ptr(), image.len(), level) }
+}
+
+/// `bjorkneve_find`.
+#[inline]
+pub fn find(image: &[u8], kind: u32) -> BjorknevePlace {
+    // SAFETY: the pointer is good for reading the length beside it.
+    unsafe { c::bjorkneve_find(image.as_ptr(), image.len(), kind) }
+}
+
+/// `bjorkneve_build`.
+#[inline]
+pub fn build(kinds: &[u32], lengths: &[usize], bodies: &[u8], image: &mut [u8]) -> BjorkneveFilled {
+    // SAFETY: each pointer is aligned and good for the number of elements
+    // beside it, the lent image overlaps nothing, and none is kept.
+    unsafe {
+        c::bjorkneve_build(
+            kinds.as_ptr(),
+            kinds.len(),
+            lengths.as_ptr(),
+            lengths.len(),
+            bodies.as_ptr(),
+            bodies.len(),
+            image.as_mut_ptr(),
+            image.len(),
+        )
+    }
+}
+
+/// `bjorkneve_reading`.
+#[inline]
+pub fn reading(image: &[u8], level: u32, counts: Counts) -> BjorkneveAnswer {
+    let Channel {
+        sensor: SensorCycles(pressure_sensor),
+        reference: ReferenceCycles(pressure_reference),
+    } = counts.pressure;
+    let Channel {
+        sensor: SensorCycles(temperature_sensor),
+        reference: ReferenceCycles(temperature_reference),
+    } = counts.temperature;
+    // SAFETY: the pointer is good for reading the length beside it.
+    unsafe {
+        c::bjorkneve_reading(
+            image.as_ptr(),
+            image.len(),
+            level,
+            pressure_sensor,
+            pressure_reference,
+            temperature_sensor,
+            temperature_reference,
+        )
+    }
+}

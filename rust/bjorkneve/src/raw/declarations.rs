@@ -1,0 +1,56 @@
+//! The functions of libbjorkneve.a, as in the header.
+
+use super::{BjorkneveAnswer, BjorkneveFilled, BjorknevePlace, BjorkneveVerdict};
+
+#[allow(missing_docs)]
+extern "C" {
+    pub fn bjorkneve_read(
+        text: *const u8,
+        text_length: usize,
+        image: *mut u8,
+        image_length: usize,
+    ) -> BjorkneveFilled;
+
+    pub fn bjorkneve_write(
+        image: *const u8,
+        image_length: usize,
+        text: *mut u8,
+        text_length: usize,
+    ) -> BjorkneveFilled;
+
+    pub fn bjorkneve_load(
+        text: *const u8,
+        text_length: usize,
+        level: u32,
+        image: *mut u8,
+        image_length: usize,
+    ) -> BjorkneveFilled;
+
+    pub fn bjorkneve_layout(image: *const u8, image_length: usize) -> BjorkneveVerdict;
+
+    pub fn bjorkneve_verdict(image: *const u8, image_length: usize, level: u32)
+        -> BjorkneveVerdict;
+
+    pub fn bjorkneve_find(image: *const u8, image_length: usize, kind: u32) -> BjorknevePlace;
+
+    pub fn bjorkneve_build(
+        kinds: *const u32,
+        kinds_length: usize,
+        lengths: *const usize,
+        lengths_length: usize,
+        bodies: *const u8,
+        bodies_length: usize,
+        image: *mut u8,
+        image_length: usize,
+    ) -> BjorkneveFilled;
+
+    pub fn bjorkneve_reading(
+        image: *const u8,
+        image_length: usize,
+        level: u32,
+        pressure_sensor: u64,
+        pressure_reference: u64,
+        temperature_sensor: u64,
+        temperature_reference: u64,
+    ) -> BjorkneveAnswer;
+}

@@ -1,0 +1,204 @@
+//! One call made of both sides, with everything that can be checked of it.
+
+use crate::lent::Lent;
+use crate::random::Random;
+use crate::tally::Answer;
+use bjorkneve::raw;
+use std::ops::Range;
+
+/// The lent buffers of the three calls: the archive's, the safe door's and
+/// the reference's. Their dirt differs, so dirt left behind is a difference.
+#[derive(Default)]
+pub struct Both {
+    archive: Lent,
+    door: Lent,
+    reference: Lent,
+}
+
+impl Both {
+    /// Reads a text into a buffer of this size.
+    pub fn read(&mut self, text: &[u8], size: usize, random: &mut Random) -> Answer<usize> {
+        self.fill(
+            size,
+            random,
+            |image| raw::read(text, image),
+            |image| bjorkneve::read(text, image),
+            |image| reference::read(text, image),
+        )
+    }
+
+    /// Writes an image into a buffer of this size.
+    pub fn write(&mut self, image: &[u8], size: usize, random: &mut Random) -> Answer<usize> {
+        self.fill(
+            size,
+            random,
+            |text| raw::write(image, text),
+            |text| bjorkneve::write(image, text),
+            |text| reference::write(image, text),
+        )
+    }
+
+    /// Loads a text at a level into a buffer of this size.
+    pub fn load(
+        &mut self,
+        text: &[u8],
+        level: u32,
+        size: usize,
+        random: &mut Random,
+    ) -> Answer<usize> {
+        self.fill(
+            size,
+            random,
+            |image| raw::load(text, level, image),
+            |image| bjorkneve::load(text, level, image),
+            |image| reference::load(text, level, image),
+        )
+    }
+
+    /// Builds an image in a buffer of this size.
+    pub fn build(
+        &mut self,
+        kinds: &[u32],
+        lengths: &[usize],
+        bodies: &[u8],
+        size: usize,
+        random: &mut Random,
+    ) -> Answer<usize> {
+        self.fill(
+            size,
+            random,
+            |image| raw::build(kinds, lengths, bodies, image),
+            |image| bjorkneve::build(kinds, lengths, bodies, image),
+            |image| reference::build(kinds, lengths, bodies, image),
+        )
+    }
+
+    /// The buffer all three left behind.
+    pub fn part(&self) -> &[u8] {
+        self.archive.part()
+    }
+
+    fn fill(
+        &mut self,
+        size: usize,
+        random: &mut Random,
+        archive: impl FnOnce(&mut [u8]) -> raw::BjorkneveFilled,
+        door: impl FnOnce(&mut [u8]) -> Result<usize, bjorkneve::Refusal>,
+        reference: impl FnOnce(&mut [u8]) -> Result<usize, reference::Refusal>,
+    ) -> Answer<usize> {
+        let dirt = random.byte() | 1;
+        let told = archive(self.archive.lend(size, dirt));
+        let ours = door(self.door.lend(size, dirt ^ 0x42)).map_err(ours_refusal);
+        let theirs = reference(self.reference.lend(size, dirt ^ 0x84)).map_err(their_refusal);
+
+        assert_eq!(ours, theirs, "ours, the reference's");
+        assert_eq!(told.answer().map_err(ours_refusal), ours);
+        match ours {
+            Ok(_) => assert_eq!((told.number, told.detail), (0, 0)),
+            Err(_) => assert_eq!(told.length, 0, "a refusal with a length"),
+        }
+        let length = ours.unwrap_or(0);
+        self.archive.check(length);
+        self.door.check(length);
+        self.reference.check(length);
+        assert!(self.archive.part() == self.reference.part(), "content");
+        assert!(self.door.part() == self.reference.part(), "content");
+        ours
+    }
+}
+
+/// Judges a layout.
+pub fn layout(image: &[u8]) -> Answer<()> {
+    judged(
+        raw::layout(image),
+        bjorkneve::layout(image),
+        reference::layout(image),
+    )
+}
+
+/// Judges an image at a level.
+pub fn verdict(image: &[u8], level: u32) -> Answer<()> {
+    judged(
+        raw::verdict(image, level),
+        bjorkneve::verdict(image, level),
+        reference::verdict(image, level),
+    )
+}
+
+/// Finds a body.
+pub fn find(image: &[u8], kind: u32) -> Option<Range<usize>> {
+    let told = raw::find(image, kind);
+    let ours = bjorkneve::place(image, kind);
+    assert_eq!(ours, reference::find(image, kind), "ours, the reference's");
+    assert_eq!(told.range(), ours);
+    assert_eq!(told.there, ours.is_some());
+    let body = bjorkneve::find(image, kind);
+    match &ours {
+        Some(range) => assert_eq!(body, Some(&image[range.clone()])),
+        None => {
+            assert_eq!((told.offset, told.length), (0, 0), "no, but a place");
+            assert_eq!(body, None);
+        }
+    }
+    ours
+}
+
+/// Takes a reading.
+pub fn reading(image: &[u8], level: u32, counts: reference::Counts) -> Answer<reference::Reading> {
+    let channel = |counts: reference::Channel| bjorkneve::Channel {
+        sensor: bjorkneve::SensorCycles(counts.sensor.0),
+        reference: bjorkneve::ReferenceCycles(counts.reference.0),
+    };
+    let our_counts = bjorkneve::Counts {
+        pressure: channel(counts.pressure),
+        temperature: channel(counts.temperature),
+    };
+    let told = raw::reading(image, level, our_counts);
+    let ours = bjorkneve::reading(image, level, our_counts)
+        .map(|reading| reference::Reading {
+            pressure: reading.pressure,
+            temperature: reading.temperature,
+            unit: reading.unit,
+            mark: reading.mark,
+        })
+        .map_err(ours_refusal);
+    let theirs = reference::reading(image, level, counts).map_err(their_refusal);
+    assert_eq!(ours, theirs, "ours, the reference's");
+    let values = (told.pressure, told.temperature, told.unit, told.mark);
+    match &ours {
+        Ok(reading) => {
+            assert_eq!((told.number, told.detail), (0, 0));
+            let shown = (
+                reading.pressure,
+                reading.temperature,
+                reading.unit,
+                reading.mark,
+            );
+            assert_eq!(values, shown);
+        }
+        Err(refusal) => {
+            assert_eq!((told.number, told.detail), *refusal);
+            assert_eq!(values, (0, 0, 0, 0), "a refusal with a value");
+        }
+    }
+    ours
+}
+
+fn judged(
+    told: raw::BjorkneveVerdict,
+    ours: Result<(), bjorkneve::Refusal>,
+    theirs: Result<(), reference::Refusal>,
+) -> Answer<()> {
+    let ours = ours.map_err(ours_refusal);
+    assert_eq!(ours, theirs.map_err(their_refusal), "ours, the reference's");
+    assert_eq!((told.number, told.detail), ours.err().unwrap_or((0, 0)));
+    ours
+}
+
+fn ours_refusal(refusal: bjorkneve::Refusal) -> (u32, u64) {
+    (refusal.number, refusal.detail)
+}
+
+fn their_refusal(refusal: reference::Refusal) -> (u32, u64) {
+    (refusal.number, refusal.detail)
+}
