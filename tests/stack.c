@@ -1,0 +1,73 @@
+/* How much stack each call takes, on a painted stack of its own. A panel has little, so 16 KiB is the most that any may take. */
+#define _GNU_SOURCE
+#include "bjorkneve.h"
+#include <pthread.h>
+#include <stdio.h>
+#include <string.h>
+#include <sys/mman.h>
+
+enum { ROOM = 1 << 20, PAINT = 0xc3, MOST = 16 * 1024 };
+
+static uint8_t image[4096], other[4096], text[65536], written[65536];
+static size_t image_length, text_length;
+static const uint32_t kinds[] = {1, 2};
+static const size_t lengths[] = {100, 100};
+static unsigned char *stack;
+static size_t deepest;
+
+/* From the caller's frame down to the lowest byte that is no longer painted. */
+static void look(void *frame) {
+    size_t low = 0;
+    while (stack[low] == PAINT) low++;
+    deepest = (size_t)((unsigned char *)frame - (stack + low));
+}
+
+#define CALL(name, call) \
+    static void *name(void *nothing) { \
+        call; \
+        look(__builtin_frame_address(0)); \
+        return nothing; \
+    }
+CALL(nothing, (void)0)
+CALL(load, bjorkneve_load(text, text_length, 2, other, sizeof other))
+CALL(read_text, bjorkneve_read(text, text_length, other, sizeof other))
+CALL(write_text, bjorkneve_write(image, image_length, written, sizeof written))
+CALL(layout, bjorkneve_layout(image, image_length))
+CALL(verdict, bjorkneve_verdict(image, image_length, 2))
+CALL(find, bjorkneve_find(image, image_length, 3))
+CALL(reading, bjorkneve_reading(image, image_length, 2, 10000, 1800000, 10000, 1250000))
+CALL(build, bjorkneve_build(kinds, 2, lengths, 2, image, 200, other, sizeof other))
+
+static size_t taken(void *(*call)(void *)) {
+    pthread_attr_t attributes;
+    pthread_t thread;
+    stack = mmap(NULL, ROOM, PROT_READ | PROT_WRITE, MAP_PRIVATE | MAP_ANONYMOUS, -1, 0);
+    memset(stack, PAINT, ROOM);
+    pthread_attr_init(&attributes);
+    pthread_attr_setstack(&attributes, stack, ROOM);
+    pthread_create(&thread, &attributes, call, NULL);
+    pthread_join(thread, NULL);
+    munmap(stack, ROOM);
+    return deepest;
+}
+
+int main(int count, char **words) {
+    FILE *file = count == 2 ? fopen(words[1], "rb") : NULL;
+    if (!file) return 2;
+    text_length = fread(text, 1, sizeof text, file);
+    fclose(file);
+    image_length = bjorkneve_load(text, text_length, 2, image, sizeof image).length;
+    if (image_length == 0) return 2;
+    static const struct { const char *name; void *(*call)(void *); } calls[] = {
+        {"read", read_text}, {"write", write_text}, {"load", load}, {"layout", layout}, {"verdict", verdict},
+        {"find", find}, {"build", build}, {"reading", reading},
+    };
+    const size_t base = taken(nothing);
+    int failed = 0;
+    for (size_t i = 0; i < sizeof calls / sizeof calls[0]; i++) {
+        const size_t bytes = taken(calls[i].call) - base;
+        printf("%-8s %6zu bytes of stack\n", calls[i].name, bytes);
+        if (MOST < bytes) failed = 1;
+    }
+    return failed;
+}
