@@ -1,7 +1,7 @@
 -- The image's bytes as they are written: what stands before a place is the image so far.
 use mathlib.Core.Path.{_≡_, refl, sym, ap, _∙_}
 use mathlib.Core.List.{List, [], _∷_, _++_, append-assoc, append-nil}
-use Prim.Native.Nat.{ℕ, suc, _+_, _%_, _≤_, _<_}
+use Prim.Native.Nat.{ℕ, suc, _+_, _-_, _%_, _≤_, _<_}
 use native.Mathlib.Nat.{add-zero, add-suc, add-assoc}
 use native.Mathlib.Numerals.{add-one}
 use native.Mathlib.Omega.{arith}
@@ -75,8 +75,9 @@ module _ (place : ℕ) (block before : List ℕ) (i : ℕ) (image : List ℕ) (h
 pub kind-fits : (table : Table) (bodies : List ℕ) (size i : ℕ) → Buildable table bodies size → i < table .count → Fits w8 (kindIn table i)
 kind-fits table bodies size i b h = record { fits = omega (arith, b .small i h) }
 
-pub sum-of-part : (body part : List ℕ) (sum : ℕ) → part ≡ body → sum ≡ total part % 65536 → sum ≡ total body % 65536
-sum-of-part body part sum e f = rw e at f
+pub sum-of-part : (bodies : List ℕ) (start size sum : ℕ) → sum ≡ total (take (start + size - start) (drop start bodies)) % 65536
+    → sum ≡ total (take size (drop start bodies)) % 65536
+sum-of-part bodies start size sum e = let long : start + size - start ≡ size = omega arith in rw long at e
 
 -- the line of the next body, and the lines after it
 contents-more : (table : Table) (bodies : List ℕ) (offset start i sum : ℕ) → i < table .count → start + lengthIn table i ≤ length bodies
@@ -107,7 +108,7 @@ writing-first table bodies image size b = record {
 }
 
 module _ (table : Table) (bodies before : List ℕ) (start i : ℕ) (image : List ℕ) (w : Writing table bodies before start i image) where
-  body-within : i < table .count → start + lengthIn table i ≤ length bodies
+  pub body-within : i < table .count → start + lengthIn table i ≤ length bodies
   body-within h = omega (arith, lengths-more table i h, w .left)
 
   pub length-fits : (size : ℕ) → Buildable table bodies size → i < table .count → Fits w16 (lengthIn table i)

@@ -30,10 +30,12 @@ fn line(image: &mut [u8], place: usize, kind: u8, offset: u16, size: u16, sum: u
 }
 
 // The sum of the body that begins at `start`.
-fn body_sum(bodies: &[u8], start: usize, length: usize) -> u16
-    ensures { λ r. ⌜ r ≡ total (take length (drop start (now (bodies .entry)))) % 65536 ⌝ }
+fn body_sum(bodies: &[u8], start: usize, size: usize) -> u16
+    requires { ⌜ start + size ≤ length (now bodies) ⌝ }
+    ensures { λ r. ⌜ r ≡ total (take size (drop start (now (bodies .entry)))) % 65536 ⌝ }
 {
-    slices::byte_sum(slices::part(bodies, start, length))
+    let end = start + size;
+    slices::byte_sum(&bodies[start..end])
 }
 
 // The contents lines, after the image's first two bytes.

@@ -5,8 +5,17 @@ use Rattle.builder.proofs.write.body_sum.Tie as tie
 
 ruleset laws = (needs, sum-of-part)
 
-part-requires : tie.Need-part-requires
-part-requires c κs = search laws
+add-end : tie.Need-add-end
+add-end c = search laws
+
+sub-byte-sum : tie.Need-sub-byte-sum
+sub-byte-sum c = search laws
+
+part-byte-sum-start : tie.Need-part-byte-sum-start
+part-byte-sum-start c = search laws
+
+part-byte-sum-end : tie.Need-part-byte-sum-end
+part-byte-sum-end c = search laws
 
 byte-sum-requires : tie.Need-byte-sum-requires
 byte-sum-requires c κs = search laws
@@ -15,4 +24,4 @@ returns : tie.Need-returns
 returns c = search laws
 
 pub body-sum-spec : {M : Type 1} → statement M
-body-sum-spec = tie.close (tie.spec part-requires byte-sum-requires returns)
+body-sum-spec = tie.close (tie.spec add-end sub-byte-sum part-byte-sum-start part-byte-sum-end byte-sum-requires returns)

@@ -1,10 +1,10 @@
 use Prim.Native.Nat.{_-_}
 use borrow.Author.Needs.{needs}
-use Rattle.builder.specs.WriteLaws.{Writing, kind-fits, length-fits, start-fits, writing-first, writing-more, writing-end}
+use Rattle.builder.specs.WriteLaws.{Writing, body-within, kind-fits, length-fits, start-fits, writing-first, writing-more, writing-end}
 use Rattle.builder.proofs.write.contents.Statement.{statement}
 use Rattle.builder.proofs.write.contents.Tie as tie
 
-ruleset laws = (needs, kind-fits, length-fits, start-fits, writing-first, writing-more, writing-end)
+ruleset laws = (needs, body-within, kind-fits, length-fits, start-fits, writing-first, writing-more, writing-end)
 
 abbrev Inv-loop : tie.InvT-loop
 Inv-loop bodies image₀ table first start₀ i₀ image start i = Writing table bodies image₀ start i image
