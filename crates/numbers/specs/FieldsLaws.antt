@@ -1,4 +1,4 @@
--- Laws of numbers among bytes: a number of two halves, a byte, nothing past the end, a bound, a sign.
+-- Laws of numbers among bytes: a number of two halves, a byte, nothing past the end, a number of its own bytes, a bound, a sign.
 use mathlib.Core.Path.{_≡_, refl, sym, _∙_}
 use mathlib.Core.List.{List, [], _∷_}
 use Prim.Native.Nat.{ℕ, zero, suc, _+_, _-_, _*_, _^_, _≤_, _<_}

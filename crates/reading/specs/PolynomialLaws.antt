@@ -1,4 +1,4 @@
--- Laws of the running sums: one step, and a row or a grid from a place on.
+-- Laws of the running sums: one step, a row or a grid from a place on, and a row of zeros.
 use mathlib.Core.Path.{_≡_, refl, sym, ap, _∙_}
 use mathlib.Core.Bool.{Bool, true}
 use mathlib.Core.List.{List, [], _∷_}
