@@ -80,10 +80,10 @@ module _ (l : List ℕ) (n : ℕ) (v : Counted l n) where
           digits-kind = digits-low ∙ pair-digits l 7 kind pk (omega (arith, long)) hk
 
           module _ (s : ℕ) (w : TookData l n d d′ at (room - at) s) where
-            pub taken-bad-data : 65536 ≤ s → Taken (Fault 1) l d d′ room at
+            pub taken-bad-data : 256 ≤ s → Taken (Fault 1) l d d′ room at
             taken-bad-data h = no-digits (digits-kind ∙ w .sum .bad h)
 
-            module _ (hs : s < 65536) where
+            module _ (hs : s < 256) where
               digits-data : allDigits (drop 1 l) ≡ allDigits (drop (9 + n * 2) l)
               digits-data = digits-kind ∙ w .sum .good hs .digits
 
@@ -95,7 +95,7 @@ module _ (l : List ℕ) (n : ℕ) (v : Counted l n) where
                 digits-all =
                     digits-data ∙ pair-digits l (9 + n * 2) check pc (omega (arith, v .long)) hc ∙ allDigits-end l (9 + n * 2 + 2) (omega (arith, v .long))
 
-                total-of-pairs : total (recordBytes l) ≡ n + high + low + kind + s + check
+                total-of-pairs : total (recordBytes l) % 256 ≡ (n + high + low + kind + s + check) % 256
                 unfolding total
                 total-of-pairs =
                     let e = bytes-total-more l (9 + n * 2) (omega (arith, v .long)) in

@@ -1,50 +1,54 @@
 ghost use mathlib.Core.Path.{_≡_};
-ghost use Prim.Native.Nat.{_+_, _*_, _≤_};
+ghost use Prim.Native.Nat.{_+_, _*_, _≤_, max};
 ghost use lib.ListN.{length};
 ghost use Rattle.hextext.specs.Record.{typed};
 ghost use Rattle.hexread.specs.DigitsLaws.{Valued};
 ghost use Rattle.hexread.specs.PairsLaws.{Put, TookData};
 ghost use Rattle.hexread.specs.RecordLaws.{Counted, Taken};
+use crate::digits::digit;
 use crate::digits::pair;
 use hextext::Record;
 
-// Writes the bytes that `count` pairs spell from the tenth character on into the image at `to`. Their sum, or 65536 where
-// a character is no digit.
-fn put_data(values: &[usize; 256], line: &[u8], count: usize, image: &mut [u8], to: usize) -> usize
-    requires { ⌜ Valued (now values) × (11 + count * 2 ≤ length (now line)) × (count ≤ 255) × (to + count ≤ length (now image)) ⌝ }
+fn greater(one: u8, other: u8) -> u8
+    ensures { λ r. ⌜ r ≡ max one other ⌝ }
+{
+    if one < other { other } else { one }
+}
+
+// Writes the bytes that `count` pairs spell from the tenth character on into the image at `to`, all before it looks whether
+// a character was no digit, so that many go at once. Their sum modulo 256, or 256 where one was none.
+fn put_data(line: &[u8], count: usize, image: &mut [u8], to: usize) -> usize
+    requires { ⌜ (11 + count * 2 ≤ length (now line)) × (to + count ≤ length (now image)) ⌝ }
     ensures { λ r. ⌜ Put (now (line .entry)) count (now (image .entry)) (now (image .exit)) to r ⌝ }
 {
-    let mut sum: usize = 0;
+    let mut sum: u8 = 0;
+    let mut worst: u8 = 0;
     let mut i: usize = 0;
     while i < count {
-        let byte = pair(values, line, 9 + i * 2);
-        if 256 <= byte {
-            return 65536;
-        }
-        image[to + i] = byte as u8;
-        sum += byte;
+        let high = digit(line[9 + i * 2]);
+        let low = digit(line[10 + i * 2]);
+        let byte = high % 16 * 16 + low % 16;
+        image[to + i] = byte;
+        sum = std::num::wrapping_add_u8(sum, byte);
+        worst = greater(worst, greater(high, low));
         i += 1;
     }
-    sum
+    if 16 <= worst {
+        return 256;
+    }
+    sum as usize
 }
 
 // The same where they have room; where not, the image stays.
-fn take_data(
-    values: &[usize; 256],
-    line: &[u8],
-    count: usize,
-    image: &mut [u8],
-    to: usize,
-    space: usize,
-) -> usize
-    requires { ⌜ Valued (now values) × (11 + count * 2 ≤ length (now line)) × (count ≤ 255) × (to + space ≤ length (now image)) ⌝ }
+fn take_data(line: &[u8], count: usize, image: &mut [u8], to: usize, space: usize) -> usize
+    requires { ⌜ (11 + count * 2 ≤ length (now line)) × (count ≤ 255) × (to + space ≤ length (now image)) ⌝ }
     ensures { λ r. ⌜ TookData (now (line .entry)) count (now (image .entry)) (now (image .exit)) to space r ⌝ }
 {
     if count <= space {
-        return put_data(values, line, count, image, to);
+        return put_data(line, count, image, to);
     }
     let mut spare = [0u8; 255];
-    put_data(values, line, count, &mut spare, 0)
+    put_data(line, count, &mut spare, 0)
 }
 
 // Type, count, address and room of a record whose form and checksum are good.
@@ -100,8 +104,8 @@ pub fn take_record(
     if 256 <= kind {
         return Record::Fault(1);
     }
-    let data = take_data(values, line, count, image, at, room - at);
-    if 65536 <= data {
+    let data = take_data(line, count, image, at, room - at);
+    if 256 <= data {
         return Record::Fault(1);
     }
     let check = pair(values, line, 9 + count * 2);

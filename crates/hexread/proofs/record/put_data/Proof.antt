@@ -1,37 +1,50 @@
 use Prim.Native.Nat.{_-_}
 use borrow.Author.Needs.{needs}
-use Rattle.hexread.specs.PairsLaws.{Putting, putting-first, putting-more, putting-stop, putting-end}
+use Rattle.hexread.specs.PairsLaws.{Putting, putting-first, putting-more, putting-failed, putting-end}
 use Rattle.hexread.proofs.record.put_data.Statement.{statement}
 use Rattle.hexread.proofs.record.put_data.Tie as tie
+use Rattle.std.proofs.num.wrapping_add_u8.Reads as wrapping-add-u8-reads
 
-ruleset laws = (needs, putting-first, putting-more, putting-stop, putting-end)
+ruleset laws = (needs, putting-first, putting-more, putting-failed, putting-end)
 
 abbrev Inv-loop : tie.InvT-loop
-Inv-loop values line count image₀ to sum₀ i₀ image sum i = Putting line count image₀ image to sum i
+Inv-loop line count image₀ to sum₀ worst₀ i₀ image sum worst i = Putting line count image₀ image to sum worst i
 
 abbrev μ-loop : tie.MeasureT-loop
-μ-loop values line count image₀ to sum₀ i₀ image sum i = count - i
+μ-loop line count image₀ to sum₀ worst₀ i₀ image sum worst i = count - i
 
 loop-holds : tie.Need-loop-holds Inv-loop μ-loop
 loop-holds c = search laws
 
-mul-pair : tie.Need-mul-pair Inv-loop μ-loop
-mul-pair c = search laws
+mul-digit : tie.Need-mul-digit Inv-loop μ-loop
+mul-digit c = search laws
 
-add-pair : tie.Need-add-pair Inv-loop μ-loop
-add-pair c = search laws
+add-digit : tie.Need-add-digit Inv-loop μ-loop
+add-digit c = search laws
 
-pair-requires : tie.Need-pair-requires Inv-loop μ-loop
-pair-requires c κs = search laws
+shared-slice-read-digit : tie.Need-shared-slice-read-digit Inv-loop μ-loop
+shared-slice-read-digit c = search laws
 
-same-length : tie.Need-same-length Inv-loop μ-loop
-same-length c = search laws
+digit-requires : tie.Need-digit-requires Inv-loop μ-loop
+digit-requires c κs = search laws
 
-returns : tie.Need-returns Inv-loop μ-loop
-returns c = search laws
+mul-digit-2 : tie.Need-mul-digit-2 Inv-loop μ-loop
+mul-digit-2 c = search laws
 
-cast-image : tie.Need-cast-image Inv-loop μ-loop
-cast-image c = search laws
+add-digit-2 : tie.Need-add-digit-2 Inv-loop μ-loop
+add-digit-2 c = search laws
+
+shared-slice-read-digit-2 : tie.Need-shared-slice-read-digit-2 Inv-loop μ-loop
+shared-slice-read-digit-2 c = search laws
+
+digit-requires-2 : tie.Need-digit-requires-2 Inv-loop μ-loop
+digit-requires-2 c κs = search laws
+
+mul-byte : tie.Need-mul-byte Inv-loop μ-loop
+mul-byte c = search laws
+
+add-byte : tie.Need-add-byte Inv-loop μ-loop
+add-byte c = search laws
 
 add-image : tie.Need-add-image Inv-loop μ-loop
 add-image c = search laws
@@ -39,8 +52,14 @@ add-image c = search laws
 slice-write-image : tie.Need-slice-write-image Inv-loop μ-loop
 slice-write-image c = search laws
 
-add-sum : tie.Need-add-sum Inv-loop μ-loop
-add-sum c = search laws
+wrapping-add-u8-requires : tie.Need-wrapping-add-u8-requires Inv-loop μ-loop
+wrapping-add-u8-requires c κs = search laws
+
+greater-requires : tie.Need-greater-requires Inv-loop μ-loop
+greater-requires c κs = search laws
+
+greater-requires-2 : tie.Need-greater-requires-2 Inv-loop μ-loop
+greater-requires-2 c κs = search laws
 
 add-i : tie.Need-add-i Inv-loop μ-loop
 add-i c = search laws
@@ -50,6 +69,15 @@ loop-less c = search laws
 
 loop-again : tie.Need-loop-again Inv-loop μ-loop
 loop-again c = search laws
+
+same-length : tie.Need-same-length Inv-loop μ-loop
+same-length c = search laws
+
+returns : tie.Need-returns Inv-loop μ-loop
+returns c = search laws
+
+cast-result : tie.Need-cast-result Inv-loop μ-loop
+cast-result c = search laws
 
 same-length-2 : tie.Need-same-length-2 Inv-loop μ-loop
 same-length-2 c = search laws
@@ -64,17 +92,26 @@ put-data-spec =
     Inv-loop
     μ-loop
     loop-holds
-    mul-pair
-    add-pair
-    pair-requires
-    same-length
-    returns
-    cast-image
+    mul-digit
+    add-digit
+    shared-slice-read-digit
+    digit-requires
+    mul-digit-2
+    add-digit-2
+    shared-slice-read-digit-2
+    digit-requires-2
+    mul-byte
+    add-byte
     add-image
     slice-write-image
-    add-sum
+    wrapping-add-u8-requires
+    greater-requires
+    greater-requires-2
     add-i
     loop-less
     loop-again
+    same-length
+    returns
+    cast-result
     same-length-2
     returns-2)
