@@ -1,4 +1,4 @@
--- The table of the characters of each byte, how it is made, and bytes written by it.
+-- The characters of numbers below 16, the table of them, and bytes written.
 use mathlib.Core.Path.{_≡_, refl, _∙_}
 use mathlib.Core.List.{List, [], _∷_}
 use Prim.Native.Nat.{ℕ, _+_, _*_, _/_, _%_, _≤_, _<_}
@@ -8,75 +8,55 @@ use borrow.Author.Tests.{lt-ltb, le-ltb}
 use borrow.Author.Count.{below-more}
 use lib.ListN.{length, take, getD, set, length-set, length-take}
 use lib.Seq.{getD-set-same, getD-set-other, take-suc, take-all}
-use mir.Val.{Fits}
-use mir.Syntax.{w8}
 use Rattle.hextext.specs.Written.{hexDigit, spell}
 use Rattle.hextext.specs.WrittenLaws.{length-spell}
 use Rattle.hexwrite.specs.WroteLaws.{Wrote, wrote-nothing, wrote-character, wrote-then, spell-append}
 
 -- ---- a digit
 
--- r is the character of n
-pub record Digit (n r : ℕ) : Type 0 where
-  pub is : r ≡ hexDigit n
-  pub small : r < 128
-
 module _ (n : ℕ) where
-  pub digit-decimal : n < 10 → Digit n (48 + n)
+  pub digit-decimal : n < 10 → 48 + n ≡ hexDigit n
   unfolding hexDigit
-  digit-decimal h = record { is = rw (lt-ltb n 10 h); small = omega arith }
+  digit-decimal h = rw (lt-ltb n 10 h)
 
-  pub digit-letter : n < 16 → 10 ≤ n → Digit n (55 + n)
+  pub digit-letter : 10 ≤ n → 55 + n ≡ hexDigit n
   unfolding hexDigit
-  digit-letter k h = record { is = rw (le-ltb n 10 h); small = omega arith }
+  digit-letter h = rw (le-ltb n 10 h)
 
 -- ---- the table
 
--- v holds the two characters of the byte b
-pub record Characters (b v : ℕ) : Type 0 where
-  pub first : v % 256 ≡ hexDigit (b / 16)
-  pub second : v / 256 ≡ hexDigit (b % 16)
-  pub small : v / 256 < 128
+-- the first i of its 16 entries are the characters of their numbers
+pub record Digits (t : List ℕ) (i : ℕ) : Type 0 where
+  pub long : length t ≡ 16
+  pub below : (n : ℕ) → n < i → getD t n 0 ≡ hexDigit n
 
--- a table of these
-pub record Spelled (t : List ℕ) : Type 0 where
-  pub at : (b : ℕ) → b < 256 → Characters b (getD t b 0)
+pub digits-first : (t : List ℕ) → length t ≡ 16 → Digits t 0
+digits-first t e = record { long = e; below = λ n h. absurd (omega arith) }
 
--- its first i entries are made
-pub record Spelling (t : List ℕ) (i : ℕ) : Type 0 where
-  pub within : i ≤ 256
-  pub long : length t ≡ 256
-  pub below : (b : ℕ) → b < i → Characters b (getD t b 0)
-
-pub spelling-first : (t : List ℕ) → length t ≡ 256 → Spelling t 0
-spelling-first t e = record { within = omega arith; long = e; below = λ b h. absurd (omega arith) }
-
-module _ (t : List ℕ) (i : ℕ) (h : Spelling t i) where
-  pub spelling-more : (high low : ℕ) → i < 256 → Digit (i / 16) high → Digit (i % 16) low → Spelling (set t i (high + low * 256)) (i + 1)
-  spelling-more high low k p q =
+module _ (t : List ℕ) (i : ℕ) (h : Digits t i) where
+  pub digits-more : (c : ℕ) → i < 16 → c ≡ hexDigit i → Digits (set t i c) (i + 1)
+  digits-more c k e =
       record {
-        within = omega arith;
-        long = length-set t i (high + low * 256) ∙ h .long;
-        below = below-more _ i (λ b m. rw (getD-set-other t i b (high + low * 256) 0 (λ e. omega arith)) (h .below b m))
-            (rw (getD-set-same t i (high + low * 256) 0 (omega (arith, h .long)))
-            (record { first = omega (arith, p .is, p .small); second = omega (arith, q .is, p .small); small = omega (arith, p .small, q .small) }));
+        long = length-set t i c ∙ h .long;
+        below = below-more _ i (λ n m. getD-set-other t i n c 0 (λ q. omega arith) ∙ h .below n m)
+            (getD-set-same t i c 0 (omega (arith, h .long)) ∙ e);
       }
 
-  pub spelling-end : 256 ≤ i → Spelled t
-  spelling-end k = record { at = λ b m. h .below b (omega (arith, h .within)) }
+  pub digits-end : 16 ≤ i → Digits t 16
+  digits-end k = record { long = h .long; below = λ n m. h .below n (omega arith) }
 
 -- ---- a byte's characters
 
-module _ (t : List ℕ) (b : ℕ) (s : Spelled t) (h : b < 256) where
-  pub second-fits : Fits w8 (getD t b 0 / 256)
-  second-fits = record { fits = omega (arith, s .at b h .small) }
-
-  pub wrote-byte : (at v : ℕ) (d : List ℕ) → v ≡ getD t b 0 → at + 1 < length d → Wrote at (spell (b ∷ [])) d (set (set d at (v % 256)) (at + 1) (v / 256))
+module _ (at b : ℕ) (d : List ℕ) (h : at + 1 < length d) where
+  pub wrote-pair : (u v : ℕ) → u ≡ hexDigit (b / 16) → v ≡ hexDigit (b % 16) → Wrote at (spell (b ∷ [])) d (set (set d at u) (at + 1) v)
   unfolding spell
-  wrote-byte at v d e k =
-      rw (← s .at b h .first, ← s .at b h .second, ← e)
-      (wrote-then at (at + 1) (v % 256 ∷ []) (v / 256 ∷ []) d (set d at (v % 256)) (set (set d at (v % 256)) (at + 1) (v / 256))
-      (wrote-character at (v % 256) d (omega arith)) refl (wrote-character (at + 1) (v / 256) (set d at (v % 256)) (simp length-set k)))
+  wrote-pair u v e f =
+      rw (← e, ← f)
+      (wrote-then at (at + 1) (u ∷ []) (v ∷ []) d (set d at u) (set (set d at u) (at + 1) v)
+      (wrote-character at u d (omega arith)) refl (wrote-character (at + 1) v (set d at u) (simp length-set h)))
+
+  pub wrote-byte : (t : List ℕ) → Digits t 16 → b < 256 → Wrote at (spell (b ∷ [])) d (set (set d at (getD t (b / 16) 0)) (at + 1) (getD t (b % 16) 0))
+  wrote-byte t s k = wrote-pair (getD t (b / 16) 0) (getD t (b % 16) 0) (s .below (b / 16) (omega arith)) (s .below (b % 16) (omega arith))
 
 -- ---- the characters of bytes in a row
 
@@ -101,6 +81,17 @@ module _ (at : ℕ) (x d₀ d : List ℕ) (i : ℕ) (h : WritingBytes at x d₀ 
         wrote = rw (add-one i, take-suc x i 0 k, spell-append (take i x) (getD x i 0 ∷ []))
             (wrote-then at (at + i * 2) (spell (take i x)) (spell (getD x i 0 ∷ [])) d₀ d d′ (h .wrote) e w);
       }
+
+  -- the two characters written one after the other
+  module _ (k : i < length x) (room : at + length x * 2 ≤ length d₀) (u : ℕ) where
+    pub second-fits : at + i * 2 + 1 < length (set d (at + i * 2) u)
+    second-fits = simp length-set (omega (arith, h .kept))
+
+    pub writing-bytes-pair : (v : ℕ) → u ≡ hexDigit (getD x i 0 / 16) → v ≡ hexDigit (getD x i 0 % 16)
+        → WritingBytes at x d₀ (set (set d (at + i * 2) u) (at + i * 2 + 1) v) (i + 1)
+    writing-bytes-pair v e f =
+        writing-bytes-more (set (set d (at + i * 2) u) (at + i * 2 + 1) v) k (simp length-set)
+        (wrote-pair (at + i * 2) (getD x i 0) d (omega (arith, h .kept)) u v e f)
 
   pub writing-bytes-end : length x ≤ i → Wrote at (spell x) d₀ d
   writing-bytes-end k = rw (take-all i x k) at (h .wrote)

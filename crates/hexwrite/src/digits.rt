@@ -1,31 +1,44 @@
+ghost use mathlib.Core.Path.{_≡_};
 ghost use mathlib.Core.List.{_∷_, []};
-ghost use Prim.Native.Nat.{_+_, _*_, _<_, _≤_};
+ghost use Prim.Native.Nat.{_+_, _*_, _/_, _%_, _<_, _≤_};
 ghost use lib.ListN.{length};
-ghost use Rattle.hextext.specs.Written.{spell};
-ghost use Rattle.hexwrite.specs.DigitsLaws.{Digit, Spelled};
+ghost use Rattle.hextext.specs.Written.{hexDigit, spell};
+ghost use Rattle.hexwrite.specs.DigitsLaws.{Digits};
 ghost use Rattle.hexwrite.specs.WroteLaws.{Wrote};
 
 // The character of a number below 16.
-fn hex_digit(value: u16) -> u16
+fn hex_digit(value: u8) -> u8
     requires { ⌜ value < 16 ⌝ }
-    ensures { λ r. ⌜ Digit value r ⌝ }
+    ensures { λ r. ⌜ r ≡ hexDigit value ⌝ }
 {
     if value < 10 { 48 + value } else { 55 + value }
 }
 
-// The two characters of each byte, the first in the low half.
-pub fn pairs_of_bytes() -> [u16; 256]
-    ensures { λ r. ⌜ Spelled r ⌝ }
+// The first character of a byte.
+fn high_digit(byte: u8) -> u8
+    ensures { λ r. ⌜ r ≡ hexDigit (byte / 16) ⌝ }
 {
-    let mut pairs = [0u16; 256];
-    let mut byte: u16 = 0;
-    while byte < 256 {
-        let high = hex_digit(byte / 16);
-        let low = hex_digit(byte % 16);
-        pairs[byte as usize] = high + low * 256;
-        byte += 1;
+    hex_digit(byte / 16)
+}
+
+// The second.
+fn low_digit(byte: u8) -> u8
+    ensures { λ r. ⌜ r ≡ hexDigit (byte % 16) ⌝ }
+{
+    hex_digit(byte % 16)
+}
+
+// The characters of the numbers below 16.
+pub fn hex_digits() -> [u8; 16]
+    ensures { λ r. ⌜ Digits r 16 ⌝ }
+{
+    let mut digits = [0u8; 16];
+    let mut value: u8 = 0;
+    while value < 16 {
+        digits[value as usize] = hex_digit(value);
+        value += 1;
     }
-    pairs
+    digits
 }
 
 pub fn put_character(text: &mut [u8], at: usize, character: u8)
@@ -36,23 +49,35 @@ pub fn put_character(text: &mut [u8], at: usize, character: u8)
 }
 
 // Writes the two characters of a byte.
-pub fn put_byte(pairs: &[u16; 256], text: &mut [u8], at: usize, byte: u8)
-    requires { ⌜ Spelled (now pairs) × (at + 1 < length (now text)) ⌝ }
+pub fn put_byte(digits: &[u8; 16], text: &mut [u8], at: usize, byte: u8)
+    requires { ⌜ Digits (now digits) 16 × (at + 1 < length (now text)) ⌝ }
     ensures { λ _. ⌜ Wrote at (spell (byte ∷ [])) (now (text .entry)) (now (text .exit)) ⌝ }
 {
-    let pair = pairs[byte as usize];
-    text[at] = (pair % 256) as u8;
-    text[at + 1] = (pair / 256) as u8;
+    text[at] = digits[(byte / 16) as usize];
+    text[at + 1] = digits[(byte % 16) as usize];
 }
 
-// Writes the characters of the bytes.
-pub fn put_bytes(pairs: &[u16; 256], text: &mut [u8], at: usize, bytes: &[u8])
-    requires { ⌜ Spelled (now pairs) × (at + length (now bytes) * 2 ≤ length (now text)) ⌝ }
+// Writes the characters of a few bytes, for which the table is quicker.
+pub fn put_few(digits: &[u8; 16], text: &mut [u8], at: usize, bytes: &[u8])
+    requires { ⌜ Digits (now digits) 16 × (at + length (now bytes) * 2 ≤ length (now text)) ⌝ }
     ensures { λ _. ⌜ Wrote at (spell (now (bytes .entry))) (now (text .entry)) (now (text .exit)) ⌝ }
 {
     let mut i: usize = 0;
     while i < bytes.len() {
-        put_byte(pairs, text, at + i * 2, bytes[i]);
+        put_byte(digits, text, at + i * 2, bytes[i]);
+        i += 1;
+    }
+}
+
+// Writes the characters of the bytes. Worked out in place, with no table and no name for the byte, many are written at once.
+pub fn put_bytes(text: &mut [u8], at: usize, bytes: &[u8])
+    requires { ⌜ at + length (now bytes) * 2 ≤ length (now text) ⌝ }
+    ensures { λ _. ⌜ Wrote at (spell (now (bytes .entry))) (now (text .entry)) (now (text .exit)) ⌝ }
+{
+    let mut i: usize = 0;
+    while i < bytes.len() {
+        text[at + i * 2] = high_digit(bytes[i]);
+        text[at + i * 2 + 1] = low_digit(bytes[i]);
         i += 1;
     }
 }

@@ -3,12 +3,13 @@ ghost use mathlib.Core.List.{_++_, _∷_, []};
 ghost use Prim.Native.Nat.{_+_, _*_, _<_, _≤_};
 ghost use lib.ListN.{length};
 ghost use Rattle.hextext.specs.Written.{spell, checksum};
-ghost use Rattle.hexwrite.specs.DigitsLaws.{Spelled};
+ghost use Rattle.hexwrite.specs.DigitsLaws.{Digits};
 ghost use Rattle.hexwrite.specs.WroteLaws.{Wrote};
 ghost use Rattle.hexwrite.specs.RecordLaws.{WroteRecord};
 use crate::digits::put_byte;
 use crate::digits::put_bytes;
 use crate::digits::put_character;
+use crate::digits::put_few;
 use numbers::slices::byte_sum;
 
 // The byte that makes the sum of a record's bytes 0 modulo 256.
@@ -20,33 +21,33 @@ fn check_byte(head: &[u8], bytes: &[u8]) -> u8
 }
 
 // Writes the colon and the bytes before the data.
-fn put_head(pairs: &[u16; 256], text: &mut [u8], at: usize, head: &[u8])
-    requires { ⌜ Spelled (now pairs) × (at + 1 + length (now head) * 2 ≤ length (now text)) ⌝ }
+fn put_head(digits: &[u8; 16], text: &mut [u8], at: usize, head: &[u8])
+    requires { ⌜ Digits (now digits) 16 × (at + 1 + length (now head) * 2 ≤ length (now text)) ⌝ }
     ensures { λ _. ⌜ Wrote at (58 ∷ spell (now (head .entry))) (now (text .entry)) (now (text .exit)) ⌝ }
 {
     put_character(text, at, b':');
-    put_bytes(pairs, text, at + 1, head);
+    put_few(digits, text, at + 1, head);
 }
 
 // Writes the checksum and the line end.
-fn put_end(pairs: &[u16; 256], text: &mut [u8], at: usize, check: u8)
-    requires { ⌜ Spelled (now pairs) × (at + 3 ≤ length (now text)) ⌝ }
+fn put_end(digits: &[u8; 16], text: &mut [u8], at: usize, check: u8)
+    requires { ⌜ Digits (now digits) 16 × (at + 3 ≤ length (now text)) ⌝ }
     ensures { λ _. ⌜ Wrote at (spell (check ∷ []) ++ 10 ∷ []) (now (text .entry)) (now (text .exit)) ⌝ }
 {
-    put_byte(pairs, text, at, check);
+    put_byte(digits, text, at, check);
     put_character(text, at + 2, b'\n');
 }
 
 // Writes a record. Where the next one starts.
 pub fn put_record(
-    pairs: &[u16; 256],
+    digits: &[u8; 16],
     text: &mut [u8],
     at: usize,
     address: usize,
     kind: u8,
     bytes: &[u8],
 ) -> usize
-    requires { ⌜ Spelled (now pairs) × (address < 65536) × (length (now bytes) < 256) × (at + 12 + length (now bytes) * 2 ≤ length (now text)) ⌝ }
+    requires { ⌜ Digits (now digits) 16 × (address < 65536) × (length (now bytes) < 256) × (at + 12 + length (now bytes) * 2 ≤ length (now text)) ⌝ }
     ensures { λ r. ⌜ WroteRecord at address kind (now (bytes .entry)) (now (text .entry)) r (now (text .exit)) ⌝ }
 {
     let count = bytes.len();
@@ -58,8 +59,8 @@ pub fn put_record(
     ];
     let check = check_byte(&head, bytes);
     let end = at + 9 + count * 2;
-    put_head(pairs, text, at, &head);
-    put_bytes(pairs, text, at + 9, bytes);
-    put_end(pairs, text, end, check);
+    put_head(digits, text, at, &head);
+    put_bytes(text, at + 9, bytes);
+    put_end(digits, text, end, check);
     end + 3
 }

@@ -1,32 +1,53 @@
 use Prim.Native.Nat.{_-_}
 use borrow.Author.Needs.{needs}
 use lib.ListN.{length}
-use Rattle.hexwrite.specs.DigitsLaws.{WritingBytes, writing-bytes-first, writing-bytes-more, writing-bytes-end}
+use Rattle.hexwrite.specs.DigitsLaws.{WritingBytes, writing-bytes-first, second-fits, writing-bytes-pair, writing-bytes-end}
 use Rattle.hexwrite.proofs.digits.put_bytes.Statement.{statement}
 use Rattle.hexwrite.proofs.digits.put_bytes.Tie as tie
 
-ruleset laws = (needs, writing-bytes-first, writing-bytes-more, writing-bytes-end)
+ruleset laws = (needs, writing-bytes-first, second-fits, writing-bytes-pair, writing-bytes-end)
 
 abbrev Inv-loop : tie.InvT-loop
-Inv-loop pairs text₀ at bytes i₀ text i = WritingBytes at bytes text₀ text i
+Inv-loop text₀ at bytes i₀ text i = WritingBytes at bytes text₀ text i
 
 abbrev μ-loop : tie.MeasureT-loop
-μ-loop pairs text₀ at bytes i₀ text i = length bytes - i
+μ-loop text₀ at bytes i₀ text i = length bytes - i
 
 loop-holds : tie.Need-loop-holds Inv-loop μ-loop
 loop-holds c = search laws
 
-mul-put-byte : tie.Need-mul-put-byte Inv-loop μ-loop
-mul-put-byte c = search laws
+shared-slice-read-high-digit : tie.Need-shared-slice-read-high-digit Inv-loop μ-loop
+shared-slice-read-high-digit c = search laws
 
-add-put-byte : tie.Need-add-put-byte Inv-loop μ-loop
-add-put-byte c = search laws
+high-digit-requires : tie.Need-high-digit-requires Inv-loop μ-loop
+high-digit-requires c κs = search laws
 
-shared-slice-read-put-byte : tie.Need-shared-slice-read-put-byte Inv-loop μ-loop
-shared-slice-read-put-byte c = search laws
+mul-text : tie.Need-mul-text Inv-loop μ-loop
+mul-text c = search laws
 
-put-byte-requires : tie.Need-put-byte-requires Inv-loop μ-loop
-put-byte-requires c κs = search laws
+add-text : tie.Need-add-text Inv-loop μ-loop
+add-text c = search laws
+
+slice-write-text : tie.Need-slice-write-text Inv-loop μ-loop
+slice-write-text c = search laws
+
+shared-slice-read-low-digit : tie.Need-shared-slice-read-low-digit Inv-loop μ-loop
+shared-slice-read-low-digit c = search laws
+
+low-digit-requires : tie.Need-low-digit-requires Inv-loop μ-loop
+low-digit-requires c κs = search laws
+
+mul-text-2 : tie.Need-mul-text-2 Inv-loop μ-loop
+mul-text-2 c = search laws
+
+add-text-2 : tie.Need-add-text-2 Inv-loop μ-loop
+add-text-2 c = search laws
+
+add-text-3 : tie.Need-add-text-3 Inv-loop μ-loop
+add-text-3 c = search laws
+
+slice-write-text-2 : tie.Need-slice-write-text-2 Inv-loop μ-loop
+slice-write-text-2 c = search laws
 
 add-i : tie.Need-add-i Inv-loop μ-loop
 add-i c = search laws
@@ -50,10 +71,17 @@ put-bytes-spec =
     Inv-loop
     μ-loop
     loop-holds
-    mul-put-byte
-    add-put-byte
-    shared-slice-read-put-byte
-    put-byte-requires
+    shared-slice-read-high-digit
+    high-digit-requires
+    mul-text
+    add-text
+    slice-write-text
+    shared-slice-read-low-digit
+    low-digit-requires
+    mul-text-2
+    add-text-2
+    add-text-3
+    slice-write-text-2
     add-i
     loop-less
     loop-again

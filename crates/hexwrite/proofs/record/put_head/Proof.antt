@@ -8,11 +8,11 @@ ruleset laws = (needs, wrote-head)
 put-character-requires : tie.Need-put-character-requires
 put-character-requires c κs = search laws
 
-add-put-bytes : tie.Need-add-put-bytes
-add-put-bytes c = search laws
+add-put-few : tie.Need-add-put-few
+add-put-few c = search laws
 
-put-bytes-requires : tie.Need-put-bytes-requires
-put-bytes-requires c κs = search laws
+put-few-requires : tie.Need-put-few-requires
+put-few-requires c κs = search laws
 
 same-length : tie.Need-same-length
 same-length c = search laws
@@ -23,4 +23,4 @@ returns c = search laws
 pub put-head-spec : {M : Type 1} → statement M
 put-head-spec =
     tie.close
-    (tie.spec put-character-requires add-put-bytes put-bytes-requires same-length returns)
+    (tie.spec put-character-requires add-put-few put-few-requires same-length returns)

@@ -14,8 +14,8 @@ text-length-requires c κs = search laws
 returns-2 : tie.Need-returns-2
 returns-2 c = search laws
 
-pairs-of-bytes-requires : tie.Need-pairs-of-bytes-requires
-pairs-of-bytes-requires c κs = search laws
+hex-digits-requires : tie.Need-hex-digits-requires
+hex-digits-requires c κs = search laws
 
 put-records-requires : tie.Need-put-records-requires
 put-records-requires c κs = search laws
@@ -33,7 +33,7 @@ write-records-spec =
     returns
     text-length-requires
     returns-2
-    pairs-of-bytes-requires
+    hex-digits-requires
     put-records-requires
     same-length
     returns-3)
