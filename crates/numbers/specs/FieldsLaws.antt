@@ -92,6 +92,9 @@ unfolding numberAt littleEndian
 spelled-alike zero l place = refl
 spelled-alike (suc w) l place = rw (spelled-from w l place 1) (by-low-byte w l place)
 
+pub number-of-bytes : (w : ℕ) (l : List ℕ) (place : ℕ) {r : ℕ} → r ≡ numberAt w (bytesAt w l place) 0 → r ≡ numberAt w l place
+number-of-bytes w l place e = e ∙ spelled-alike w l place
+
 pub signed-of-bytes : (w : ℕ) (l : List ℕ) (place : ℕ) {r : ℤ} → r ≡ signedAt w (bytesAt w l place) 0 → r ≡ signedAt w l place
 signed-of-bytes w l place e = rw (spelled-alike w l place) at e
 

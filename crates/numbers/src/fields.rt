@@ -70,7 +70,13 @@ pub fn signed8(bytes: &[u8], place: usize) -> i64
     signed(number8(bytes, place))
 }
 
-// Of eight bytes by value: a caller that knows that they are all there needs no test.
+// Of bytes by value: a caller that knows that they are all there needs no test.
+pub fn number_of_2(bytes: [u8; 2]) -> u16
+    ensures { λ r. ⌜ r ≡ numberAt 2 bytes 0 ⌝ }
+{
+    whole2(&bytes, 0)
+}
+
 pub fn signed_of_8(bytes: [u8; 8]) -> i64
     ensures { λ r. ⌜ r ≡ signedAt 8 bytes 0 ⌝ }
 {
