@@ -2,15 +2,16 @@
 use mathlib.Core.Bool.{Bool, true, false, not, _&&_}
 use mathlib.Core.List.{List}
 use mathlib.Core.Path.{_≡_, sym, _∙_}
-use Prim.Native.Nat.{ℕ, _+_, _-_, _*_, _%_, _≤_, _<_}
+use Prim.Native.Nat.{ℕ, zero, suc, _+_, _-_, _*_, _%_, _≤_, _<_}
 use native.Mathlib.Nat.{sub-zero}
 use native.Mathlib.Omega.{arith}
 use borrow.Author.Tests.{lt-ltb, eq-eqb, ne-eqb, not-true, not-false}
 use lib.Dec.{leb, eqb}
-use lib.ListN.{length, take, drop}
-use Rattle.laws.specs.Cases.{decide}
+use lib.ListN.{length, take, drop, getD}
+use Rattle.laws.specs.Cases.{split, decide}
 use Rattle.laws.specs.Sums.{total}
 use Rattle.numbers.specs.Fields.{numberAt}
+use Rattle.numbers.specs.FieldsLaws.{byte-at}
 use Rattle.refusals.specs.declared.Refusal.{Refusal}
 use Rattle.refusals.specs.declared.Verdict.{Verdict}
 use Rattle.refusals.specs.declared.Verdict.the-variants.{Accepted, Refused}
@@ -18,8 +19,8 @@ use Rattle.refusals.specs.Refusals.{refusal, ask}
 use Rattle.refusals.specs.VerdictLaws.{ask-passes, ask-refuses, ask-unpassed}
 use Rattle.image.specs.Layout.{lineCount, linePlace, kindAt, zeroAt, offsetAt, lengthAt, sumAt, startVerdict, countVerdict, lineRight, linesVerdict, sumsVerdict, layoutVerdict}
 use Rattle.laws.specs.Loops.{one-left, none-left}
-use Rattle.image.specs.LayoutLaws.{Started, start-passes, start-passed, Counted, count-passes, count-passed, Right, passed-right}
-use Rattle.layout.specs.Checks.{allLines, sumRight, allSums}
+use Rattle.image.specs.LayoutLaws.{Started, start-passes, start-passed, Counted, count-passes, count-passed, Right, passed-right, line-passed, lines-ended}
+use Rattle.layout.specs.Checks.{allLines, Placed, sumRight, allSums}
 
 -- ---- 5
 
@@ -69,15 +70,16 @@ module _ (image : List ℕ) (i previous offset : ℕ) where
   line-wrong : (Right image i previous offset → ⊥) → lineRight image i previous offset ≡ false
   line-wrong f = decide (lineRight image i previous offset) (λ e. absurd (f (passed-right image i previous offset e))) (λ e. e)
 
-  pub kind-wrong : (kind : ℕ) → kind ≡ kindAt image i → kind ≤ previous → false ≡ lineRight image i previous offset
-  kind-wrong kind k h = sym (line-wrong (λ (s : Right image i previous offset). omega arith))
+  pub kind-wrong : getD image (linePlace i) 0 ≤ previous → false ≡ lineRight image i previous offset
+  kind-wrong h = sym (line-wrong (λ (s : Right image i previous offset). omega (arith, byte-at image (linePlace i))))
 
-  pub zero-wrong : (blank : ℕ) → blank ≡ zeroAt image i → (blank ≡ 0 → ⊥) → false ≡ lineRight image i previous offset
-  zero-wrong blank z n = sym (line-wrong (λ (s : Right image i previous offset). n (z ∙ s .zero-is)))
+  pub zero-wrong : (getD image (linePlace i + 1) 0 ≡ 0 → ⊥) → false ≡ lineRight image i previous offset
+  zero-wrong n = sym (line-wrong (λ (s : Right image i previous offset). n (sym (byte-at image (linePlace i + 1)) ∙ s .zero-is)))
 
-  pub offset-decides : (kind blank start : ℕ) → kind ≡ kindAt image i → previous < kind → blank ≡ zeroAt image i → blank ≡ 0 → start ≡ offsetAt image i
+  pub offset-decides : (start : ℕ) → previous < getD image (linePlace i) 0 → getD image (linePlace i + 1) 0 ≡ 0 → start ≡ offsetAt image i
       → eqb start offset ≡ lineRight image i previous offset
-  offset-decides kind blank start k h z n e = rw (← k, lt-ltb previous kind h, ← z, n, e)
+  offset-decides start h n e =
+      rw (byte-at image (linePlace i), lt-ltb previous (getD image (linePlace i) 0) h, byte-at image (linePlace i + 1), n, e)
 
 -- i lines are right: what is left to judge
 pub record Judging (image : List ℕ) (count i previous offset : ℕ) : Type 0 where
@@ -95,12 +97,12 @@ module _ (image : List ℕ) (count i previous offset : ℕ) (right : Bool) (t : 
   unfolding linesVerdict
   lines-stop f r e = e ∙ rw (one-left count i more, ← t, not-true right f) at (j .rest)
 
-  pub lines-more : not right ≡ false → (kind size : ℕ) → kind ≡ kindAt image i → size ≡ lengthAt image i → size < 65536
-      → Judging image count (i + 1) kind (offset + size)
+  pub lines-more : not right ≡ false → (size : ℕ) → size ≡ lengthAt image i → size < 65536
+      → Judging image count (i + 1) (getD image (linePlace i) 0) (offset + size)
   unfolding linesVerdict
-  lines-more f kind size k l small =
+  lines-more f size l small =
       record {
-        rest = rw (k, l) (rw (one-left count i more, ← t, not-false right f) at (j .rest));
+        rest = rw (← byte-at image (linePlace i), l) (rw (one-left count i more, ← t, not-false right f) at (j .rest));
         few = j .few;
         passed = omega arith;
         near = omega (arith, j .near);
@@ -121,33 +123,61 @@ module _ (image : List ℕ) (count i previous offset : ℕ) (j : Judging image c
 
 -- ---- 8
 
-pub sum-decides : (image body : List ℕ) (i start size sum stated : ℕ) → body ≡ take size (drop start image)
+-- the bodies of the lines left start within the image, and end there
+lines-within : (image : List ℕ) (left i previous offset : ℕ) → linesVerdict image left i previous offset ≡ Accepted
+    → (offset ≤ length image) × ((k : ℕ) → i ≤ k → k < i + left → offsetAt image k + lengthAt image k ≤ length image)
+lines-within image zero i previous offset e = (omega (arith, lines-ended image i previous offset e), λ k h more. absurd (omega arith))
+lines-within image (suc left) i previous offset e =
+    let p = line-passed image left i previous offset e in
+    let w = lines-within image left (i + 1) (kindAt image i) (offset + lengthAt image i) (p .others) in (
+      omega (arith, w .0),
+      λ (k : ℕ) (h : i ≤ k) (more : k < i + suc left). split (i + 1) k
+          (λ (after : i + 1 ≤ k). w .1 k after (omega arith))
+          (λ (first : k < i + 1). let same : k ≡ i = omega arith in rw (same, p .right .starts) (w .0)),
+    )
+
+pub body-there : (image : List ℕ) (count i : ℕ) → Placed image → count ≡ lineCount image → i < count → offsetAt image i + lengthAt image i ≤ length image
+body-there image count i p c h = p .within i (omega arith)
+
+pub sum-decides : (image body : List ℕ) (i start size sum stated : ℕ) → body ≡ take (start + size - start) (drop start image)
     → start ≡ offsetAt image i → size ≡ lengthAt image i → sum ≡ total body % 65536 → stated ≡ sumAt image i → eqb sum stated ≡ sumRight image i
-sum-decides image body i start size sum stated b f l s t = rw (s, t, b, f, l)
+sum-decides image body i start size sum stated b f l s t = let long : start + size - start ≡ size = omega arith in rw (s, t, b, long, f, l)
 
 -- i bodies have the right sum
-pub record Summed (image : List ℕ) (count i : ℕ) : Type 0 where
-  pub rest : sumsVerdict image (count - i) i ≡ allSums image
-  pub few : count < 256
+abbrev pub Summed : List ℕ → (count i : ℕ) → Type 0
+Summed image count i = sumsVerdict image (count - i) i ≡ allSums image
 
-pub summed-first : (image : List ℕ) (count : ℕ) → count ≡ lineCount image → count < 256 → Summed image count 0
-summed-first image count c h = record { rest = rw (sub-zero count, c); few = h }
+pub summed-first : (image : List ℕ) (count : ℕ) → count ≡ lineCount image → Summed image count 0
+summed-first image count c = rw (sub-zero count, c)
 
 module _ (image : List ℕ) (count i : ℕ) (j : Summed image count i) where
   module _ (right : Bool) (t : right ≡ sumRight image i) (more : i < count) where
     pub sums-stop : not right ≡ true → (r : Verdict) → r ≡ Refused (refusal 8 i) → r ≡ allSums image
     unfolding sumsVerdict
-    sums-stop f r e = e ∙ rw (one-left count i more, ← t, not-true right f) at (j .rest)
+    sums-stop f r e = e ∙ rw (one-left count i more, ← t, not-true right f) at j
 
     pub sums-more : not right ≡ false → Summed image count (i + 1)
     unfolding sumsVerdict
-    sums-more f = record { rest = rw (one-left count i more, ← t, not-false right f) at (j .rest); few = j .few }
+    sums-more f = rw (one-left count i more, ← t, not-false right f) at j
 
   pub sums-end : count ≤ i → Accepted ≡ allSums image
   unfolding sumsVerdict
-  sums-end end = rw (none-left count i end) at (j .rest)
+  sums-end end = rw (none-left count i end) at j
 
 -- ---- all four, in order
+
+-- what an accepted check leaves the later ones to rely on
+module _ (image : List ℕ) (count : Verdict) (c : count ≡ countVerdict image) (c-passed : count ≡ Accepted) where
+  pub roomed : linePlace (lineCount image) ≤ length image
+  roomed = count-passed image (sym c ∙ c-passed) .room
+
+  pub placed : (lines : Verdict) → lines ≡ allLines image → lines ≡ Accepted → Placed image
+  placed lines l l-passed =
+      record {
+        room = roomed;
+        within = λ (i : ℕ) (h : i < lineCount image).
+            lines-within image (lineCount image) 0 0 (linePlace (lineCount image)) (sym l ∙ l-passed) .1 i (omega arith) (omega arith);
+      }
 
 module _ (image : List ℕ) (start : Verdict) (s : start ≡ startVerdict image) where
   pub start-decides : (q : Refusal) → start ≡ Refused q → start ≡ layoutVerdict image

@@ -1,7 +1,9 @@
 ghost use mathlib.Core.Path.{_≡_};
-ghost use Prim.Native.Nat.{_<_};
-ghost use Rattle.image.specs.Layout.{startVerdict, countVerdict, lineRight};
-ghost use Rattle.layout.specs.Checks.{allLines, sumRight, allSums};
+ghost use Prim.Native.Nat.{_+_, _≤_};
+ghost use lib.ListN.{length};
+ghost use Rattle.numbers.specs.Fields.{numberAt};
+ghost use Rattle.image.specs.Layout.{lineCount, linePlace, offsetAt, lengthAt, startVerdict, countVerdict, lineRight};
+ghost use Rattle.layout.specs.Checks.{allLines, Placed, sumRight, allSums};
 use numbers::fields;
 use numbers::slices;
 use refusals::Verdict;
@@ -40,22 +42,31 @@ pub fn count(image: &[u8]) -> Verdict
     Verdict::Accepted
 }
 
+// From here on every contents line is there: bytes are read with no test.
+fn two_bytes(image: &[u8], place: usize) -> u16
+    requires { ⌜ place + 2 ≤ length (now image) ⌝ }
+    ensures { λ r. ⌜ r ≡ numberAt 2 (now (image .entry)) place ⌝ }
+{
+    fields::number_of_2([image[place], image[place + 1]])
+}
+
 fn line_right(image: &[u8], i: usize, previous: u8, offset: usize) -> bool
-    requires { ⌜ i < 256 ⌝ }
+    requires { ⌜ linePlace (i + 1) ≤ length (now image) ⌝ }
     ensures { λ r. ⌜ r ≡ lineRight (now (image .entry)) i previous offset ⌝ }
 {
     let place = 2 + 8 * i;
-    if fields::number1(image, place) <= previous {
+    if image[place] <= previous {
         return false;
     }
-    if fields::number1(image, place + 1) != 0 {
+    if image[place + 1] != 0 {
         return false;
     }
-    fields::number2(image, place + 2) as usize == offset
+    two_bytes(image, place + 2) as usize == offset
 }
 
 // Refusal 7.
 pub fn lines(image: &[u8]) -> Verdict
+    requires { ⌜ linePlace (lineCount (now image)) ≤ length (now image) ⌝ }
     ensures { λ r. ⌜ r ≡ allLines (now (image .entry)) ⌝ }
 {
     let count = fields::number1(image, 1) as usize;
@@ -67,8 +78,8 @@ pub fn lines(image: &[u8]) -> Verdict
             return refused(7, i as u64);
         }
         let place = 2 + 8 * i;
-        previous = fields::number1(image, place);
-        offset += fields::number2(image, place + 4) as usize;
+        previous = image[place];
+        offset += two_bytes(image, place + 4) as usize;
         i += 1;
     }
     if offset != image.len() {
@@ -79,18 +90,19 @@ pub fn lines(image: &[u8]) -> Verdict
 
 // The body goes to its sum as the part of the image where it stands.
 fn sum_right(image: &[u8], i: usize) -> bool
-    requires { ⌜ i < 256 ⌝ }
+    requires { ⌜ (linePlace (i + 1) ≤ length (now image)) × (offsetAt (now image) i + lengthAt (now image) i ≤ length (now image)) ⌝ }
     ensures { λ r. ⌜ r ≡ sumRight (now (image .entry)) i ⌝ }
 {
     let place = 2 + 8 * i;
-    let offset = fields::number2(image, place + 2) as usize;
-    let length = fields::number2(image, place + 4) as usize;
-    let body = slices::part(image, offset, length);
-    slices::byte_sum(body) == fields::number2(image, place + 6)
+    let offset = two_bytes(image, place + 2) as usize;
+    let length = two_bytes(image, place + 4) as usize;
+    let body = &image[offset..offset + length];
+    slices::byte_sum(body) == two_bytes(image, place + 6)
 }
 
 // Refusal 8.
 pub fn sums(image: &[u8]) -> Verdict
+    requires { ⌜ Placed (now image) ⌝ }
     ensures { λ r. ⌜ r ≡ allSums (now (image .entry)) ⌝ }
 {
     let count = fields::number1(image, 1) as usize;

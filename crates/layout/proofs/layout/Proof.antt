@@ -1,5 +1,5 @@
 use borrow.Author.Needs.{needs}
-use Rattle.layout.specs.ChecksLaws.{start-decides, count-decides, lines-decide, sums-decide}
+use Rattle.layout.specs.ChecksLaws.{roomed, placed, start-decides, count-decides, lines-decide, sums-decide}
 use Rattle.layout.proofs.layout.Statement.{statement}
 use Rattle.layout.proofs.layout.Tie as tie
 
@@ -28,7 +28,7 @@ returns-2 : tie.Need-returns-2
 returns-2 c = search count-decides
 
 lines-requires : tie.Need-lines-requires
-lines-requires c κs = search needs
+lines-requires c κs = search roomed
 
 enum-told-5 : tie.Need-enum-told-5
 enum-told-5 c = search needs
@@ -40,7 +40,7 @@ returns-3 : tie.Need-returns-3
 returns-3 c = search lines-decide
 
 sums-requires : tie.Need-sums-requires
-sums-requires c κs = search needs
+sums-requires c κs = search placed
 
 returns-4 : tie.Need-returns-4
 returns-4 c = search sums-decide

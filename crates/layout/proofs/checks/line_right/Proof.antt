@@ -11,26 +11,26 @@ mul-place c = search laws
 add-place : tie.Need-add-place
 add-place c = search laws
 
-number1-requires : tie.Need-number1-requires
-number1-requires c κs = search laws
+shared-slice-read-if1 : tie.Need-shared-slice-read-if1
+shared-slice-read-if1 c = search laws
 
 returns : tie.Need-returns
 returns c = search laws
 
-add-number1 : tie.Need-add-number1
-add-number1 c = search laws
+add-if2 : tie.Need-add-if2
+add-if2 c = search laws
 
-number1-requires-2 : tie.Need-number1-requires-2
-number1-requires-2 c κs = search laws
+shared-slice-read-if2 : tie.Need-shared-slice-read-if2
+shared-slice-read-if2 c = search laws
 
 returns-2 : tie.Need-returns-2
 returns-2 c = search laws
 
-add-number2 : tie.Need-add-number2
-add-number2 c = search laws
+add-two-bytes : tie.Need-add-two-bytes
+add-two-bytes c = search laws
 
-number2-requires : tie.Need-number2-requires
-number2-requires c κs = search laws
+two-bytes-requires : tie.Need-two-bytes-requires
+two-bytes-requires c κs = search laws
 
 cast-result : tie.Need-cast-result
 cast-result c = search laws
@@ -44,12 +44,12 @@ line-right-spec =
     (tie.spec
     mul-place
     add-place
-    number1-requires
+    shared-slice-read-if1
     returns
-    add-number1
-    number1-requires-2
+    add-if2
+    shared-slice-read-if2
     returns-2
-    add-number2
-    number2-requires
+    add-two-bytes
+    two-bytes-requires
     cast-result
     returns-3)

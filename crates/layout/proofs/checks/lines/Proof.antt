@@ -42,14 +42,14 @@ mul-place c = search laws
 add-place : tie.Need-add-place Inv-loop μ-loop
 add-place c = search laws
 
-number1-requires-2 : tie.Need-number1-requires-2 Inv-loop μ-loop
-number1-requires-2 c κs = search laws
+shared-slice-read-previous : tie.Need-shared-slice-read-previous Inv-loop μ-loop
+shared-slice-read-previous c = search laws
 
-add-number2 : tie.Need-add-number2 Inv-loop μ-loop
-add-number2 c = search laws
+add-two-bytes : tie.Need-add-two-bytes Inv-loop μ-loop
+add-two-bytes c = search laws
 
-number2-requires : tie.Need-number2-requires Inv-loop μ-loop
-number2-requires c κs = search laws
+two-bytes-requires : tie.Need-two-bytes-requires Inv-loop μ-loop
+two-bytes-requires c κs = search laws
 
 cast-offset : tie.Need-cast-offset Inv-loop μ-loop
 cast-offset c = search laws
@@ -91,9 +91,9 @@ lines-spec =
     returns
     mul-place
     add-place
-    number1-requires-2
-    add-number2
-    number2-requires
+    shared-slice-read-previous
+    add-two-bytes
+    two-bytes-requires
     cast-offset
     add-offset-2
     add-i

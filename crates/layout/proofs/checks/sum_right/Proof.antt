@@ -11,35 +11,44 @@ mul-place c = search laws
 add-place : tie.Need-add-place
 add-place c = search laws
 
-add-number2 : tie.Need-add-number2
-add-number2 c = search laws
+add-two-bytes : tie.Need-add-two-bytes
+add-two-bytes c = search laws
 
-number2-requires : tie.Need-number2-requires
-number2-requires c κs = search laws
+two-bytes-requires : tie.Need-two-bytes-requires
+two-bytes-requires c κs = search laws
 
 cast-offset : tie.Need-cast-offset
 cast-offset c = search laws
 
-add-number2-2 : tie.Need-add-number2-2
-add-number2-2 c = search laws
+add-two-bytes-2 : tie.Need-add-two-bytes-2
+add-two-bytes-2 c = search laws
 
-number2-requires-2 : tie.Need-number2-requires-2
-number2-requires-2 c κs = search laws
+two-bytes-requires-2 : tie.Need-two-bytes-requires-2
+two-bytes-requires-2 c κs = search laws
 
 cast-length : tie.Need-cast-length
 cast-length c = search laws
 
-part-requires : tie.Need-part-requires
-part-requires c κs = search laws
+add-body : tie.Need-add-body
+add-body c = search laws
+
+sub-body : tie.Need-sub-body
+sub-body c = search laws
+
+part-body-start : tie.Need-part-body-start
+part-body-start c = search laws
+
+part-body-end : tie.Need-part-body-end
+part-body-end c = search laws
 
 byte-sum-requires : tie.Need-byte-sum-requires
 byte-sum-requires c κs = search laws
 
-add-number2-3 : tie.Need-add-number2-3
-add-number2-3 c = search laws
+add-two-bytes-3 : tie.Need-add-two-bytes-3
+add-two-bytes-3 c = search laws
 
-number2-requires-3 : tie.Need-number2-requires-3
-number2-requires-3 c κs = search laws
+two-bytes-requires-3 : tie.Need-two-bytes-requires-3
+two-bytes-requires-3 c κs = search laws
 
 returns : tie.Need-returns
 returns c = search laws
@@ -50,14 +59,17 @@ sum-right-spec =
     (tie.spec
     mul-place
     add-place
-    add-number2
-    number2-requires
+    add-two-bytes
+    two-bytes-requires
     cast-offset
-    add-number2-2
-    number2-requires-2
+    add-two-bytes-2
+    two-bytes-requires-2
     cast-length
-    part-requires
+    add-body
+    sub-body
+    part-body-start
+    part-body-end
     byte-sum-requires
-    add-number2-3
-    number2-requires-3
+    add-two-bytes-3
+    two-bytes-requires-3
     returns)

@@ -1,10 +1,10 @@
 use Prim.Native.Nat.{_-_}
 use borrow.Author.Needs.{needs}
-use Rattle.layout.specs.ChecksLaws.{Summed, summed-first, sums-stop, sums-more, sums-end}
+use Rattle.layout.specs.ChecksLaws.{Summed, summed-first, body-there, sums-stop, sums-more, sums-end}
 use Rattle.layout.proofs.checks.sums.Statement.{statement}
 use Rattle.layout.proofs.checks.sums.Tie as tie
 
-ruleset laws = (needs, summed-first, sums-stop, sums-more, sums-end)
+ruleset laws = (needs, summed-first, body-there, sums-stop, sums-more, sums-end)
 
 abbrev Inv-loop : tie.InvT-loop
 Inv-loop image count i₀ i = Summed image count i
