@@ -1,46 +1,58 @@
 -- Each way out of the reading of an image.
-use mathlib.Core.Path.{_≡_}
-use mathlib.Core.List.{List, []}
+use mathlib.Core.Path.{_≡_, refl, sym, _∙_}
+use mathlib.Core.Bool.{Bool, true, false}
+use mathlib.Core.List.{List}
+use mathlib.Core.Option.{Option, none, some}
 use Prim.Native.Nat.{ℕ}
-use lib.ListN.{take, drop}
-use denote.Ref.{RefT, now}
-use Rattle.numbers.specs.Slices.{IsPart}
+use native.Mathlib.Omega.{arith}
+use lib.IntN.{ℤ}
+use Rattle.laws.specs.Cases.{never}
 use Rattle.refusals.specs.declared.Refusal.{Refusal}
 use Rattle.refusals.specs.declared.Verdict.{Verdict}
 use Rattle.refusals.specs.declared.Verdict.the-variants.{Accepted, Refused as NotAccepted}
+use Rattle.image.specs.Layout.{bodyAt}
 use Rattle.image.specs.Sections.{sections}
-use Rattle.image.specs.Find.{bodyOf, orElse}
-use Rattle.finder.specs.declared.Place.{Place}
-use Rattle.finder.specs.declared.Place.the-variants.{At, Nowhere}
-use Rattle.finder.specs.Places.{statedPlace, startOf, lengthOf}
-use Rattle.finder.specs.PlacesLaws.{body-said, bodySaid}
+use Rattle.image.specs.Find.{bodyOf, isThere}
+use Rattle.sets.specs.declared.Set.{Set}
+use Rattle.sets.specs.Set.{setOf, gridOf}
+use Rattle.bodies.specs.declared.Identity.{Identity}
+use Rattle.bodies.specs.Identity.{identityOf}
 use Rattle.bodies.specs.declared.Trim.{Trim}
 use Rattle.bodies.specs.Trim.{trimOf}
 use Rattle.reading.specs.declared.Counts.{Counts}
 use Rattle.reading.specs.declared.Answer.{Answer}
 use Rattle.reading.specs.declared.Answer.the-variants.{Refused}
+use Rattle.reading.specs.declared.Trimming.{Trimming}
 use Rattle.reading.specs.declared.Trimming.the-variants.{Untrimmed, By}
+use Rattle.reading.specs.Measured.{measuredOf}
 use Rattle.panel.specs.Verdict.{verdictOf}
-use Rattle.panel.specs.Reading.{bodyIn, trimmingOf, sectionsReading, readingOf}
+use Rattle.panel.specs.Reading.{trimmingOf, sectionsReading, readingOf}
+use Rattle.panel.specs.LinesLaws.{Leads, next-leads}
 
-module _ (image : RefT (List ℕ)) (kind : ℕ) (place : Place) (p : place ≡ statedPlace (now image) kind) (part : RefT (List ℕ))
-    (h : IsPart image part (startOf place) (lengthOf place)) where
-  pub body-is : now part ≡ bodyIn kind (sections (now image))
-  body-is = rw (body-said (now image) kind, ← p) (by place (h .holds))
+module _ (image : List ℕ) (b : Bool) (e : b ≡ isThere (bodyOf 4 (sections image))) where
+  pub trimmed-by : (body : List ℕ) (trim : Trim) → Leads image 3 → b ≡ true → body ≡ bodyAt image 3 → trim ≡ trimOf body
+      → By trim ≡ trimmingOf (bodyOf 4 (sections image))
+  trimmed-by body trim l t h f = rw (next-leads image 3 l b e t .bodies 3 (omega arith), f, h)
+
+  pub untrimmed : b ≡ false → Untrimmed ≡ trimmingOf (bodyOf 4 (sections image))
+  untrimmed t = by (bodyOf 4 (sections image)) (sym e ∙ t)
     where
-      by : (q : Place) → now part ≡ take (lengthOf q) (drop (startOf q) (now image)) → now part ≡ orElse [] (bodySaid (now image) q)
-      by (At offset size) e = e
-      by Nowhere e = e
+      by : (o : Option (List ℕ)) → isThere o ≡ false → Untrimmed ≡ trimmingOf o
+      by none f = refl
+      by (some body) f = never (sym f)
 
-module _ (image : RefT (List ℕ)) (place : Place) (p : place ≡ statedPlace (now image) 4) where
-  pub trimmed-by : (offset size : ℕ) (part : RefT (List ℕ)) (trim : Trim) → place ≡ At offset size → IsPart image part (startOf place) (lengthOf place)
-      → trim ≡ trimOf (now part) → By trim ≡ trimmingOf (bodyOf 4 (sections (now image)))
-  trimmed-by offset size part trim a h t =
-      let holds : now part ≡ take size (drop offset (now image)) = rw a at (h .holds) in
-      rw (body-said (now image) 4, ← p, a, ← holds, t)
-
-  pub untrimmed : place ≡ Nowhere → Untrimmed ≡ trimmingOf (bodyOf 4 (sections (now image)))
-  untrimmed n = rw (body-said (now image) 4, ← p, n)
+-- the bodies of kinds 1, 2, 3 are those of the first three lines
+pub sections-measured : (image : List ℕ) (counts : Counts) → Leads image 3 → {r : Answer} {identity : Identity} {pressure temperature : Set} {at-pressure at-temperature : List (List ℤ)} {trimming : Trimming}
+    → r ≡ measuredOf counts identity pressure at-pressure temperature at-temperature trimming
+    → (first second third : List ℕ)
+    → identity ≡ identityOf first → first ≡ bodyAt image 0
+    → pressure ≡ setOf second → at-pressure ≡ gridOf second → second ≡ bodyAt image 1
+    → temperature ≡ setOf third → at-temperature ≡ gridOf third → third ≡ bodyAt image 2
+    → trimming ≡ trimmingOf (bodyOf 4 (sections image))
+    → r ≡ sectionsReading (sections image) counts
+unfolding sectionsReading
+sections-measured image counts l e first second third i f p pg s t tg h trim =
+    rw (l .bodies 0 (omega arith), l .bodies 1 (omega arith), l .bodies 2 (omega arith), ← f, ← s, ← h, ← i, ← p, ← pg, ← t, ← tg, ← trim) e
 
 module _ (level : ℕ) (image : List ℕ) (counts : Counts) (v : Verdict) (e : v ≡ verdictOf level image) where
   pub reading-taken : {r : Answer} → v ≡ Accepted → r ≡ sectionsReading (sections image) counts → r ≡ readingOf level image counts

@@ -6,21 +6,16 @@ use Prim.Native.Nat.{ℕ, _+_, _-_, _≤_, _<_}
 use native.Mathlib.Nat.{sub-zero}
 use native.Mathlib.Omega.{arith}
 use borrow.Author.Tests.{not-true, not-false}
-use denote.Ref.{RefT, now}
 use Rattle.laws.specs.Cases.{split}
 use Rattle.laws.specs.Loops.{one-left, none-left}
-use Rattle.numbers.specs.Slices.{IsPart}
 use Rattle.refusals.specs.declared.Refusal.{Refusal}
 use Rattle.refusals.specs.declared.Verdict.{Verdict}
 use Rattle.refusals.specs.declared.Verdict.the-variants.{Accepted, Refused}
 use Rattle.refusals.specs.Refusals.{refusal}
-use Rattle.image.specs.Layout.{lineCount, kindAt, offsetAt, lengthAt, bodyAt, layoutVerdict}
+use Rattle.image.specs.Layout.{lineCount, kindAt, bodyAt, layoutVerdict}
 use Rattle.image.specs.Sections.{Section, sectionsFrom, sections}
+use Rattle.image.specs.Find.{bodyOf, isThere}
 use Rattle.image.specs.OrderLaws.{sections-ascend}
-use Rattle.finder.specs.declared.Place.{Place}
-use Rattle.finder.specs.declared.Place.the-variants.{At, Nowhere}
-use Rattle.finder.specs.Places.{statedPlace}
-use Rattle.finder.specs.PlacesLaws.{body-said}
 use Rattle.bodies.specs.Identity.{identityVerdict}
 use Rattle.sets.specs.Set.{setVerdict}
 use Rattle.bodies.specs.Trim.{trimVerdict}
@@ -42,11 +37,10 @@ layout-good image v e a = sym e ∙ a
 
 pub record Passing (verdict : List Section → Verdict) (image : List ℕ) (count i : ℕ) : Type 0 where
   pub rest : verdict (sectionsFrom image (count - i) i) ≡ verdict (sections image)
-  pub few : count < 256
 
-pub passing-first : (verdict : List Section → Verdict) (image : List ℕ) (count : ℕ) → count ≡ lineCount image → count < 256 → Passing verdict image count 0
+pub passing-first : (verdict : List Section → Verdict) (image : List ℕ) (count : ℕ) → count ≡ lineCount image → Passing verdict image count 0
 unfolding sections
-passing-first verdict image count c h = record { rest = rw (sub-zero count, c); few = h }
+passing-first verdict image count c = record { rest = rw (sub-zero count, c) }
 
 -- ---- 9
 
@@ -56,7 +50,7 @@ module _ (image : List ℕ) (level count i : ℕ) (p : Passing (unknownVerdict l
     unfolding unknownVerdict sectionsFrom
     passing-more t =
         let passed : mayPass level (kindAt image i) ≡ true = rw k at (sym e ∙ not-false b t) in
-        record { rest = rw (one-left count i more, passed) at (p .rest); few = p .few }
+        record { rest = rw (one-left count i more, passed) at (p .rest) }
 
     pub unknown-here : {r : Verdict} → r ≡ Refused (refusal 9 kind) → not b ≡ true → r ≡ unknownVerdict level (sections image)
     unfolding unknownVerdict sectionsFrom
@@ -70,12 +64,12 @@ module _ (image : List ℕ) (level count i : ℕ) (p : Passing (unknownVerdict l
 
 -- ---- 10
 
-module _ (image : List ℕ) (kind : ℕ) (place : Place) (p : place ≡ statedPlace image kind) where
-  pub is-present : (offset size : ℕ) → place ≡ At offset size → Accepted ≡ presentVerdict kind (sections image)
-  is-present offset size e = rw (body-said image kind, ← p, e)
+module _ (kind : ℕ) (ss : List Section) (b : Bool) (e : b ≡ isThere (bodyOf kind ss)) where
+  pub is-present : b ≡ true → Accepted ≡ presentVerdict kind ss
+  is-present t = rw (← e, t)
 
-  pub is-missing : {r : Verdict} → r ≡ Refused (refusal 10 kind) → place ≡ Nowhere → r ≡ presentVerdict kind (sections image)
-  is-missing f e = rw (body-said image kind, ← p, e) f
+  pub is-missing : {r : Verdict} → r ≡ Refused (refusal 10 kind) → b ≡ false → r ≡ presentVerdict kind ss
+  is-missing f t = rw (← e, t) f
 
 -- ---- 11 to 16
 
@@ -107,21 +101,18 @@ module _ (kind : ℕ) (body : List ℕ) where
   pub as-higher : 4 ≤ kind → (kind ≡ 4 → ⊥) → (kind ≡ 129 → ⊥) → Accepted ≡ kindVerdict kind body
   as-higher h four note = sym (not-judged kind body ((λ e. omega arith), ((λ e. omega arith), ((λ e. omega arith), (four, (note, tt))))))
 
-module _ (image : RefT (List ℕ)) (level i kind : ℕ) (k : kind ≡ kindAt (now image) i) (b : Bool) (e : b ≡ knows level kind) where
-  pub kind-not-known : not b ≡ true → Accepted ≡ lineVerdict level (now image) i
+module _ (image : List ℕ) (level i kind : ℕ) (k : kind ≡ kindAt image i) (b : Bool) (e : b ≡ knows level kind) where
+  pub kind-not-known : not b ≡ true → Accepted ≡ lineVerdict level image i
   kind-not-known t = rw (← k, ← e, not-true b t)
 
-  pub body-judged : not b ≡ false → (offset size : ℕ) (part : RefT (List ℕ)) (r : Verdict) → offset ≡ offsetAt (now image) i → size ≡ lengthAt (now image) i
-      → IsPart image part offset size → r ≡ kindVerdict kind (now part) → r ≡ lineVerdict level (now image) i
-  body-judged t offset size part r o l h v =
-      let holds : now part ≡ bodyAt (now image) i = rw (o, l) at (h .holds) in
-      rw (← k, ← e, not-false b t, ← holds) v
+  pub body-judged : not b ≡ false → (body : List ℕ) (r : Verdict) → body ≡ bodyAt image i → r ≡ kindVerdict kind body → r ≡ lineVerdict level image i
+  body-judged t body r h v = rw (← k, ← e, not-false b t, ← h) v
 
 module _ (image : List ℕ) (level count i : ℕ) (p : Passing (sectionBySection level) image count i) where
   module _ (more : i < count) (v : Verdict) (e : v ≡ lineVerdict level image i) where
     pub bodies-more : v ≡ Accepted → Passing (sectionBySection level) image count (i + 1)
     unfolding sectionBySection sectionsFrom
-    bodies-more a = record { rest = rw (one-left count i more, ← e, a) at (p .rest); few = p .few }
+    bodies-more a = record { rest = rw (one-left count i more, ← e, a) at (p .rest) }
 
     pub body-refused : layoutVerdict image ≡ Accepted → (r : Refusal) → v ≡ Refused r → v ≡ bodiesVerdict level (sections image)
     unfolding sectionBySection sectionsFrom

@@ -3,6 +3,9 @@
 // Which kinds a level knows.
 mod levels;
 
+// The contents lines of an image whose layout is good.
+mod lines;
+
 // The verdict on an image.
 mod verdicts;
 

@@ -1,5 +1,5 @@
+use crate::lines;
 use crate::verdicts::verdict;
-use finder::Place;
 use reading::Answer;
 use reading::Counts;
 use reading::Trimming;
@@ -7,30 +7,26 @@ use refusals::Verdict;
 ghost use mathlib.Core.Path.{_≡_};
 ghost use Rattle.image.specs.Sections.{sections};
 ghost use Rattle.image.specs.Find.{bodyOf};
-ghost use Rattle.panel.specs.Reading.{bodyIn, trimmingOf, sectionsReading, readingOf};
-
-fn body(image: &[u8], kind: u32) -> &[u8]
-    ensures { λ r. ⌜ now r ≡ bodyIn kind (sections (now (image .entry))) ⌝ }
-{
-    finder::part_at(image, finder::stated(image, kind))
-}
+ghost use Rattle.panel.specs.LinesLaws.{Leads};
+ghost use Rattle.panel.specs.Reading.{trimmingOf, sectionsReading, readingOf};
 
 fn trimming(image: &[u8]) -> Trimming
+    requires { ⌜ Leads (now image) 3 ⌝ }
     ensures { λ r. ⌜ r ≡ trimmingOf (bodyOf 4 (sections (now (image .entry)))) ⌝ }
 {
-    let place = finder::stated(image, 4);
-    match place {
-        Place::At(_, _) => Trimming::By(bodies::read_trim(finder::part_at(image, place))),
-        Place::Nowhere => Trimming::Untrimmed,
+    if lines::has_next(image, 3) {
+        return Trimming::By(bodies::read_trim(lines::body(image, 3)));
     }
+    Trimming::Untrimmed
 }
 
 fn measured(image: &[u8], counts: Counts) -> Answer
+    requires { ⌜ Leads (now image) 3 ⌝ }
     ensures { λ r. ⌜ r ≡ sectionsReading (sections (now (image .entry))) counts ⌝ }
 {
-    let identity = bodies::read_identity(body(image, 1));
-    let pressure = body(image, 2);
-    let temperature = body(image, 3);
+    let identity = bodies::read_identity(lines::body(image, 0));
+    let pressure = lines::body(image, 1);
+    let temperature = lines::body(image, 2);
     reading::measured(
         counts,
         identity,

@@ -1,11 +1,12 @@
 use crate::levels;
-use finder::Place;
+use crate::lines;
 use refusals::Verdict;
 use refusals::refused;
 ghost use mathlib.Core.Path.{_≡_};
-ghost use Prim.Native.Nat.{_<_};
+ghost use Prim.Native.Nat.{_+_, _<_};
 ghost use Rattle.image.specs.Layout.{layoutVerdict};
 ghost use Rattle.image.specs.Sections.{sections};
+ghost use Rattle.panel.specs.LinesLaws.{HasLine, Leads};
 ghost use Rattle.panel.specs.BodiesLaws.{lineVerdict};
 ghost use Rattle.panel.specs.Verdict.{levelVerdict, unknownVerdict, presentVerdict, missingVerdict, kindVerdict, bodiesVerdict, sectionsVerdict, verdictOf};
 
@@ -21,12 +22,13 @@ fn level_verdict(level: u32) -> Verdict
 
 // Refusal 9.
 fn unknown_verdict(image: &[u8], level: u32) -> Verdict
+    requires { ⌜ layoutVerdict (now image) ≡ Verdict.Accepted ⌝ }
     ensures { λ r. ⌜ r ≡ unknownVerdict level (sections (now (image .entry))) ⌝ }
 {
-    let count = numbers::fields::number1(image, 1) as usize;
+    let count = lines::count(image);
     let mut i: usize = 0;
     while i < count {
-        let kind = numbers::fields::number1(image, 2 + 8 * i) as u32;
+        let kind = lines::kind(image, i);
         if !levels::may_pass(level, kind) {
             return refused(9, kind as u64);
         }
@@ -35,29 +37,31 @@ fn unknown_verdict(image: &[u8], level: u32) -> Verdict
     Verdict::Accepted
 }
 
-fn present_verdict(image: &[u8], kind: u32) -> Verdict
-    ensures { λ r. ⌜ r ≡ presentVerdict kind (sections (now (image .entry))) ⌝ }
+// Kind line + 1, where the kinds below it are there.
+fn present_verdict(image: &[u8], line: usize) -> Verdict
+    requires { ⌜ Leads (now image) line × (line < 3) ⌝ }
+    ensures { λ r. ⌜ r ≡ presentVerdict (line + 1) (sections (now (image .entry))) ⌝ }
 {
-    let place = finder::stated(image, kind);
-    match place {
-        Place::At(_, _) => Verdict::Accepted,
-        Place::Nowhere => refused(10, kind as u64),
+    if lines::has_next(image, line) {
+        return Verdict::Accepted;
     }
+    refused(10, line as u64 + 1)
 }
 
 // Refusal 10.
 fn missing_verdict(image: &[u8]) -> Verdict
+    requires { ⌜ layoutVerdict (now image) ≡ Verdict.Accepted ⌝ }
     ensures { λ r. ⌜ r ≡ missingVerdict (sections (now (image .entry))) ⌝ }
 {
-    let first = present_verdict(image, 1);
+    let first = present_verdict(image, 0);
     let Verdict::Accepted = first else {
         return first;
     };
-    let second = present_verdict(image, 2);
+    let second = present_verdict(image, 1);
     let Verdict::Accepted = second else {
         return second;
     };
-    present_verdict(image, 3)
+    present_verdict(image, 2)
 }
 
 // The body of a kind, wherever it stands.
@@ -73,19 +77,16 @@ fn kind_verdict(kind: u32, body: &[u8]) -> Verdict
     }
 }
 
-// The body of a line, as the part of the image where it stands, if the level knows its kind.
+// The body of a line, if the level knows its kind.
 fn line_verdict(image: &[u8], level: u32, line: usize) -> Verdict
-    requires { ⌜ line < 256 ⌝ }
+    requires { ⌜ HasLine (now image) line ⌝ }
     ensures { λ r. ⌜ r ≡ lineVerdict level (now (image .entry)) line ⌝ }
 {
-    let place = 2 + 8 * line;
-    let kind = numbers::fields::number1(image, place) as u32;
+    let kind = lines::kind(image, line);
     if !levels::knows(level, kind) {
         return Verdict::Accepted;
     }
-    let offset = numbers::fields::number2(image, place + 2) as usize;
-    let length = numbers::fields::number2(image, place + 4) as usize;
-    kind_verdict(kind, numbers::slices::part(image, offset, length))
+    kind_verdict(kind, lines::body(image, line))
 }
 
 // Refusals 11, 12, 13, 15, 16, in one walk over the contents lines: their kinds rise as these numbers do.
@@ -93,7 +94,7 @@ fn bodies_verdict(image: &[u8], level: u32) -> Verdict
     requires { ⌜ layoutVerdict (now image) ≡ Verdict.Accepted ⌝ }
     ensures { λ r. ⌜ r ≡ bodiesVerdict level (sections (now (image .entry))) ⌝ }
 {
-    let count = numbers::fields::number1(image, 1) as usize;
+    let count = lines::count(image);
     let mut line = 0;
     while line < count {
         let judged = line_verdict(image, level, line);

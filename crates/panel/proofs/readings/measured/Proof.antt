@@ -1,53 +1,43 @@
 use borrow.Author.Needs.{needs}
-use Rattle.panel.specs.Reading.{sectionsReading}
+use Rattle.panel.specs.LinesLaws.{first-line}
+use Rattle.panel.specs.ReadingLaws.{sections-measured}
 use Rattle.panel.proofs.readings.measured.Statement.{statement}
 use Rattle.panel.proofs.readings.measured.Tie as tie
 
+ruleset laws = (needs, first-line, sections-measured)
+
 body-requires : tie.Need-body-requires
-body-requires c κs = search needs
+body-requires c κs = search laws
 
 read-identity-requires : tie.Need-read-identity-requires
-read-identity-requires c κs = search needs
+read-identity-requires c κs = search laws
 
 body-requires-2 : tie.Need-body-requires-2
-body-requires-2 c κs = search needs
+body-requires-2 c κs = search laws
 
 body-requires-3 : tie.Need-body-requires-3
-body-requires-3 c κs = search needs
+body-requires-3 c κs = search laws
 
 read-set-requires : tie.Need-read-set-requires
-read-set-requires c κs = search needs
+read-set-requires c κs = search laws
 
 read-grid-requires : tie.Need-read-grid-requires
-read-grid-requires c κs = search needs
+read-grid-requires c κs = search laws
 
 read-set-requires-2 : tie.Need-read-set-requires-2
-read-set-requires-2 c κs = search needs
+read-set-requires-2 c κs = search laws
 
 read-grid-requires-2 : tie.Need-read-grid-requires-2
-read-grid-requires-2 c κs = search needs
+read-grid-requires-2 c κs = search laws
 
 trimming-requires : tie.Need-trimming-requires
-trimming-requires c κs = search needs
+trimming-requires c κs = search laws
 
 measured-requires : tie.Need-measured-requires
-measured-requires c κs = search needs
+measured-requires c κs = search laws
 
 returns : tie.Need-returns
-unfolding sectionsReading
-returns c =
-    let identity = rw (c .before .before .before .before .before .before .before .before .before .body .ensures) at (c .before .before .before .before .before .before .before .before .read-identity .ensures) in
-    let pressure = c .before .before .before .before .before .before .before .body2 .ensures in
-    let temperature = c .before .before .before .before .before .before .body3 .ensures in
-    rw (
-      identity,
-      rw pressure at (c .before .before .before .before .before .read-set .ensures),
-      rw pressure at (c .before .before .before .before .read-grid .ensures),
-      rw temperature at (c .before .before .before .read-set2 .ensures),
-      rw temperature at (c .before .before .read-grid2 .ensures),
-      c .before .trimming .ensures,
-    )
-    at (c .measured .ensures)
+returns c = search laws
 
 pub measured-spec : {M : Type 1} → statement M
 measured-spec =

@@ -1,4 +1,5 @@
 use borrow.Author.Needs.{needs}
+use Rattle.panel.specs.LinesLaws.{verdict-leads}
 use Rattle.panel.specs.ReadingLaws.{reading-taken, reading-refused}
 use Rattle.panel.proofs.readings.reading.Statement.{statement}
 use Rattle.panel.proofs.readings.reading.Tie as tie
@@ -10,7 +11,7 @@ enum-told : tie.Need-enum-told
 enum-told c = search needs
 
 measured-requires : tie.Need-measured-requires
-measured-requires c κs = search needs
+measured-requires c κs = search (needs, verdict-leads)
 
 enum-known-judged : tie.Need-enum-known-judged
 enum-known-judged c = search needs

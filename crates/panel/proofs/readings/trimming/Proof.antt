@@ -1,37 +1,26 @@
 use borrow.Author.Needs.{needs}
+use Rattle.panel.specs.LinesLaws.{next-line}
 use Rattle.panel.specs.ReadingLaws.{trimmed-by, untrimmed}
 use Rattle.panel.proofs.readings.trimming.Statement.{statement}
 use Rattle.panel.proofs.readings.trimming.Tie as tie
 
-stated-requires : tie.Need-stated-requires
-stated-requires c κs = search needs
+ruleset laws = (needs, next-line, trimmed-by, untrimmed)
 
-enum-told : tie.Need-enum-told
-enum-told c = search needs
+has-next-requires : tie.Need-has-next-requires
+has-next-requires c κs = search laws
 
-part-at-requires : tie.Need-part-at-requires
-part-at-requires c κs = search needs
+body-requires : tie.Need-body-requires
+body-requires c κs = search laws
 
 read-trim-requires : tie.Need-read-trim-requires
-read-trim-requires c κs = search needs
-
-enum-told-2 : tie.Need-enum-told-2
-enum-told-2 c = search needs
+read-trim-requires c κs = search laws
 
 returns : tie.Need-returns
-returns c = search (needs, trimmed-by)
+returns c = search laws
 
 returns-2 : tie.Need-returns-2
-returns-2 c = search (needs, untrimmed)
+returns-2 c = search laws
 
 pub trimming-spec : {M : Type 1} → statement M
 trimming-spec =
-    tie.close
-    (tie.spec
-    stated-requires
-    enum-told
-    part-at-requires
-    read-trim-requires
-    enum-told-2
-    returns
-    returns-2)
+    tie.close (tie.spec has-next-requires body-requires read-trim-requires returns returns-2)

@@ -3,24 +3,23 @@ use Rattle.panel.specs.VerdictLaws.{is-present, is-missing}
 use Rattle.panel.proofs.verdicts.present_verdict.Statement.{statement}
 use Rattle.panel.proofs.verdicts.present_verdict.Tie as tie
 
-stated-requires : tie.Need-stated-requires
-stated-requires c κs = search needs
+ruleset laws = (needs, is-present, is-missing)
 
-enum-told : tie.Need-enum-told
-enum-told c = search needs
-
-enum-told-2 : tie.Need-enum-told-2
-enum-told-2 c = search needs
-
-refused-requires : tie.Need-refused-requires
-refused-requires c κs = search needs
+has-next-requires : tie.Need-has-next-requires
+has-next-requires c κs = search laws
 
 returns : tie.Need-returns
-returns c = search (needs, is-present)
+returns c = search laws
+
+add-refused : tie.Need-add-refused
+add-refused c = search laws
+
+refused-requires : tie.Need-refused-requires
+refused-requires c κs = search laws
 
 returns-2 : tie.Need-returns-2
-returns-2 c = search (needs, is-missing)
+returns-2 c = search laws
 
 pub present-verdict-spec : {M : Type 1} → statement M
 present-verdict-spec =
-    tie.close (tie.spec stated-requires enum-told enum-told-2 refused-requires returns returns-2)
+    tie.close (tie.spec has-next-requires returns add-refused refused-requires returns-2)

@@ -1,11 +1,12 @@
 use Prim.Native.Nat.{_-_}
 use borrow.Author.Needs.{needs}
 use Rattle.panel.specs.Verdict.{unknownVerdict}
+use Rattle.panel.specs.LinesLaws.{has-line}
 use Rattle.panel.specs.VerdictLaws.{Passing, passing-first, passing-more, unknown-here, none-unknown}
 use Rattle.panel.proofs.verdicts.unknown_verdict.Statement.{statement}
 use Rattle.panel.proofs.verdicts.unknown_verdict.Tie as tie
 
-ruleset laws = (needs, passing-first, passing-more, unknown-here, none-unknown)
+ruleset laws = (needs, has-line, passing-first, passing-more, unknown-here, none-unknown)
 
 abbrev Inv-loop : tie.InvT-loop
 Inv-loop image level count i₀ i = Passing (unknownVerdict level) image count i
@@ -13,26 +14,14 @@ Inv-loop image level count i₀ i = Passing (unknownVerdict level) image count i
 abbrev μ-loop : tie.MeasureT-loop
 μ-loop image level count i₀ i = count - i
 
-number1-requires : tie.Need-number1-requires Inv-loop μ-loop
-number1-requires c κs = search laws
-
-cast-count : tie.Need-cast-count Inv-loop μ-loop
-cast-count c = search laws
+count-requires : tie.Need-count-requires Inv-loop μ-loop
+count-requires c κs = search laws
 
 loop-holds : tie.Need-loop-holds Inv-loop μ-loop
 loop-holds c = search laws
 
-mul-number1 : tie.Need-mul-number1 Inv-loop μ-loop
-mul-number1 c = search laws
-
-add-number1 : tie.Need-add-number1 Inv-loop μ-loop
-add-number1 c = search laws
-
-number1-requires-2 : tie.Need-number1-requires-2 Inv-loop μ-loop
-number1-requires-2 c κs = search laws
-
-cast-kind : tie.Need-cast-kind Inv-loop μ-loop
-cast-kind c = search laws
+kind-requires : tie.Need-kind-requires Inv-loop μ-loop
+kind-requires c κs = search laws
 
 may-pass-requires : tie.Need-may-pass-requires Inv-loop μ-loop
 may-pass-requires c κs = search laws
@@ -64,13 +53,9 @@ unknown-verdict-spec =
     (tie.spec
     Inv-loop
     μ-loop
-    number1-requires
-    cast-count
+    count-requires
     loop-holds
-    mul-number1
-    add-number1
-    number1-requires-2
-    cast-kind
+    kind-requires
     may-pass-requires
     cast-refused
     refused-requires
