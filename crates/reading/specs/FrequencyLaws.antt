@@ -1,8 +1,8 @@
 -- Each way out of `frequency` and of `prescaled`.
 use mathlib.Core.Path.{_≡_, ap, _∙_}
 use mathlib.Core.Bool.{true, false, _&&_}
-use Prim.Native.Nat.{ℕ, _*_, _/_, _^_, _≤_, _<_}
-use native.Mathlib.Nat.{div-lt-iff-lt-mul, le-div-iff-mul-le, mul-le-mul-right}
+use Prim.Native.Nat.{ℕ, _-_, _*_, _/_, _^_, _≤_, _<_}
+use native.Mathlib.Nat.{div-lt-iff-lt-mul, le-div-iff-mul-le, mul-le-mul, mul-le-mul-right}
 use native.Mathlib.Omega.{arith}
 use borrow.Author.Tests.{le-leb, lt-leb, eq-eqb, ne-eqb}
 use lib.Dec.{leb, eqb, lit<}
@@ -85,6 +85,12 @@ module _ (detail multiplier : ℕ) (difference : ℤ) where
       let product = magnitude-product (pos multiplier) difference in
       let low = rounded-low (2 ^ 32) (lit< tt) (pos multiplier *ℤ difference) in
       e ∙ within-beyond (2 ^ 24) 24 detail (rounded (pos multiplier *ℤ difference) (2 ^ 32)) (omega arith)
+
+  -- as it is for every set that is right
+  pub near-fits : multiplier ≤ 2 ^ 30 → natAbs difference < 2 ^ 33 → SFits w64 (pos multiplier *ℤ difference)
+  near-fits h k =
+      let l : natAbs difference ≤ 2 ^ 33 - 1 = omega arith in
+      fits-64 (omega (arith, magnitude-product (pos multiplier) difference, mul-le-mul h l))
 
   module _ (some : multiplier ≡ 0 → ⊥) where
     pub far-product : {r : Value} → r ≡ Refused (refusal 24 detail) → 2 ^ 57 / multiplier < natAbs difference → r ≡ scaledOf detail multiplier difference

@@ -6,7 +6,9 @@ use crate::value::refused;
 use sets::Prescale;
 ghost use mathlib.Core.Path.{_≡_};
 ghost use Prim.Native.Nat.{_≤_};
-ghost use lib.IntN.{natAbs};
+ghost use lib.IntN.{pos, natAbs, _*ℤ_};
+ghost use mir.Syntax.{w64};
+ghost use mir.Val.{SFits};
 ghost use Rattle.reading.specs.Frequency.{frequencyOf, scaledOf, prescaledOf};
 
 // F, in 1/65,536 Hz.
@@ -39,14 +41,29 @@ fn scaled(detail: u64, multiplier: u32, difference: i64) -> Value
     ensures { λ r. ⌜ r ≡ scaledOf detail multiplier difference ⌝ }
 {
     let factor = multiplier as u64;
+    let distance = whole::magnitude(difference);
+    // so it is for every set that is right, and a division is spared
+    if factor <= 1073741824 {
+        if distance < 8589934592 {
+            return scaled_product(detail, multiplier, difference);
+        }
+    }
     if factor == 0 {
         return Value::Known(0);
     }
     // a product that might not fit is far beyond the limit
-    if 144115188075855872 / factor < whole::magnitude(difference) {
+    if 144115188075855872 / factor < distance {
         return refused(24, detail);
     }
-    let product = (factor as i64) * difference;
+    scaled_product(detail, multiplier, difference)
+}
+
+// The same where the product fits.
+fn scaled_product(detail: u64, multiplier: u32, difference: i64) -> Value
+    requires { ⌜ SFits w64 (pos multiplier *ℤ difference) ⌝ }
+    ensures { λ r. ⌜ r ≡ scaledOf detail multiplier difference ⌝ }
+{
+    let product = (multiplier as i64) * difference;
     let x = whole::rounding::rounded_over_2_32(product);
     limited(16777216, 24, detail, x)
 }

@@ -1,79 +1,63 @@
 -- `scaled` meets its contract: a product that might have no room puts X beyond its limit.
 use mathlib.Core.Path.{_≡_}
-use Prim.Native.Nat.{_^_, _<_}
-use native.Mathlib.Omega.{arith}
 use borrow.Author.Needs.{needs}
-use lib.IntN.{pos, _*ℤ_}
-use mir.Syntax.{w64}
-use mir.Val.{SFits, toZ, ofZ}
-use mir.Facts.{toZ-ofZ, toZ-pos}
-use Rattle.reading.specs.Frequency.{scaledOf}
-use Rattle.reading.specs.FrequencyLaws.{nothing-to-multiply, far-product, product-fits}
+use lib.IntN.{natAbs}
+use mir.Facts.{toZ-ofZ}
+use Rattle.reading.specs.FrequencyLaws.{nothing-to-multiply, far-product, near-fits, product-fits}
 use Rattle.reading.proofs.frequency.scaled.Statement.{statement}
 use Rattle.reading.proofs.frequency.scaled.Tie as tie
 
--- where the product is worked out: its operands as the code reads them back, and room for it
-module _ (c : tie.Else2) where
-  operands : toZ w64 (c .before .before .before .args .multiplier) *ℤ toZ w64 (ofZ w64 (c .before .before .before .args .difference)) ≡ pos (c .before .before .before .args .multiplier) *ℤ c .before .before .before .args .difference
-  operands = rw (toZ-ofZ (c .before .before .before .fits .difference), toZ-pos w64 small)
-    where
-      small : c .before .before .before .args .multiplier < 2 ^ 63
-      small = omega arith
-
-  room : SFits w64 (pos (c .before .before .before .args .multiplier) *ℤ c .before .before .before .args .difference)
-  room =
-      let a = c .before .before .before in
-      product-fits (a .args .detail) (a .args .multiplier) (a .args .difference) (c .before .before .if1 .left)
-      (rw (rw (toZ-ofZ (a .fits .difference)) at (c .before .magnitude .ensures)) at (c .if2 .left))
-
-returns : tie.Need-returns
-returns c = search (needs, nothing-to-multiply)
-
-div-if2 : tie.Need-div-if2
-div-if2 c = search needs
+distance : (c : tie.After-magnitude) → c .magnitude .result ≡ natAbs (c .before .args .difference)
+distance c = rw (toZ-ofZ (c .before .fits .difference)) at (c .magnitude .ensures)
 
 magnitude-requires : tie.Need-magnitude-requires
 magnitude-requires c κs = search needs
 
+scaled-product-requires : tie.Need-scaled-product-requires
+scaled-product-requires c κs =
+    let a = c .before .before .before in
+    rw (toZ-ofZ (a .fits .difference))
+    (near-fits (a .args .detail) (a .args .multiplier) (a .args .difference) (c .before .if1 .taken) (rw (distance (c .before .before)) at (c .if2 .taken)))
+
+returns : tie.Need-returns
+returns c = rw (toZ-ofZ (c .before .before .before .before .fits .difference)) at (c .scaled-product .ensures)
+
+returns-2 : tie.Need-returns-2
+returns-2 c = search (needs, nothing-to-multiply)
+
+div-if4 : tie.Need-div-if4
+div-if4 c = search needs
+
 refused-requires : tie.Need-refused-requires
 refused-requires c κs = search needs
 
-returns-2 : tie.Need-returns-2
-returns-2 c =
-    let a = c .before .before .before .before in
-    far-product (a .args .detail) (a .args .multiplier) (a .args .difference) (c .before .before .before .if1 .left) (c .refused .ensures)
-    (rw (rw (toZ-ofZ (a .fits .difference)) at (c .before .before .magnitude .ensures)) at (c .before .if2 .taken))
-
-cast-product : tie.Need-cast-product
-cast-product c = search needs
-
-mul-product : tie.Need-mul-product
-mul-product c = rw (operands c) (room c)
-
-rounded-over-2-32-requires : tie.Need-rounded-over-2-32-requires
-rounded-over-2-32-requires c κs = search needs
-
-limited-requires : tie.Need-limited-requires
-limited-requires c κs = search needs
-
 returns-3 : tie.Need-returns-3
-unfolding scaledOf
 returns-3 c =
-    let p = c .before .before in
-    let rounding = rw (operands p, toZ-ofZ (room p)) at (c .before .rounded-over-2-32 .ensures) in
-    rw (toZ-ofZ (record { sfits = c .before .rounded-over-2-32 .ok }), rounding) at (c .limited .ensures)
+    let m = c .before .before .before .before in
+    let a = m .before in
+    far-product (a .args .detail) (a .args .multiplier) (a .args .difference) (c .before .before .if3 .left) (c .refused .ensures)
+    (rw (distance m) at (c .before .if4 .taken))
+
+scaled-product-requires-2 : tie.Need-scaled-product-requires-2
+scaled-product-requires-2 c κs =
+    let m = c .before .before .before in
+    let a = m .before in
+    rw (toZ-ofZ (a .fits .difference))
+    (product-fits (a .args .detail) (a .args .multiplier) (a .args .difference) (c .before .if3 .left) (rw (distance m) at (c .if4 .left)))
+
+returns-4 : tie.Need-returns-4
+returns-4 c = rw (toZ-ofZ (c .before .before .before .before .before .fits .difference)) at (c .scaled-product2 .ensures)
 
 pub scaled-spec : {M : Type 1} → statement M
 scaled-spec =
     tie.close
     (tie.spec
-    returns
-    div-if2
     magnitude-requires
-    refused-requires
+    scaled-product-requires
+    returns
     returns-2
-    cast-product
-    mul-product
-    rounded-over-2-32-requires
-    limited-requires
-    returns-3)
+    div-if4
+    refused-requires
+    returns-3
+    scaled-product-requires-2
+    returns-4)
