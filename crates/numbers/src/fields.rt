@@ -74,7 +74,9 @@ pub fn signed8(bytes: &[u8], place: usize) -> i64
 pub fn number_of_2(bytes: [u8; 2]) -> u16
     ensures { λ r. ⌜ r ≡ numberAt 2 bytes 0 ⌝ }
 {
-    whole2(&bytes, 0)
+    let low = whole1(&bytes, 0) as u16;
+    let high = whole1(&bytes, 1) as u16;
+    low + 256 * high
 }
 
 pub fn signed_of_8(bytes: [u8; 8]) -> i64
