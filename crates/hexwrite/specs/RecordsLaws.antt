@@ -41,27 +41,28 @@ module _ (x d₀ d : List ℕ) (start at : ℕ) (h : Writing x d₀ d start at) 
   written-piece : (p q d′ : List ℕ) → textFrom start (drop start x) ≡ p ++ q → Wrote at p d d′ → take (at + length p) d′ ++ q ≡ textOf x
   written-piece p q d′ e w = rw (w .is) (append-assoc (take at d) p q ∙ (rw e at (h .is)))
 
-  -- the next record's data
-  module _ (image part : RefT (List ℕ)) (cut : IsPart image part start 16) (of : now image ≡ x) where
-    is : now part ≡ take 16 (drop start x)
-    is = cut .holds ∙ rw of
+  module _ (image part : RefT (List ℕ)) (of : now image ≡ x) where
+    -- the first n bytes of what is left have room as one record
+    module _ (n : ℕ) (cut : IsPart image part start n) where
+      is : now part ≡ take n (drop start x)
+      is = cut .holds ∙ rw of
 
-    pub part-fits : at + 12 + length (now part) * 2 ≤ length d
-    part-fits = rw is (omega (arith, length-take 16 (drop start x), length-room (length (drop start x)), left, h .kept))
+      pub part-fits : at + 12 + length (now part) * 2 ≤ length d
+      part-fits = rw is (omega (arith, length-take n (drop start x), length-room (length (drop start x)), left, h .kept))
 
-    pub part-small : length (now part) < 256
-    part-small = rw is (omega (arith, length-take 16 (drop start x)))
+      pub part-small : n < 256 → length (now part) < 256
+      part-small m = rw is (omega (arith, length-take n (drop start x)))
 
-    pub writing-more : (next : ℕ) (d′ : List ℕ) → start < length x → length d′ ≡ length d → WroteRecord at start 0 (now part) d next d′
+    pub writing-more : (next : ℕ) (d′ : List ℕ) → IsPart image part start 16 → start < length x → length d′ ≡ length d → WroteRecord at start 0 (now part) d next d′
         → Writing x d₀ d′ (start + 16) next
-    writing-more next d′ k same w =
+    writing-more next d′ cut k same w =
         let p : List ℕ = recordText start 0 (now part) in
         let e : next ≡ at + length p = omega (arith, w .follows, length-recordText start 0 (now part)) in
         let t : textFrom start (drop start x) ≡ p ++ textFrom (start + 16) (drop (start + 16) x) =
-        rw is (text-more start (drop start x) (omega (arith, length-drop start x)) ∙ rw (drop-drop 16 start x)) in
+        rw (is 16 cut) (text-more start (drop start x) (omega (arith, length-drop start x)) ∙ rw (drop-drop 16 start x)) in
         record {
           kept = same ∙ h .kept;
-          inside = omega (arith, w .follows, part-fits);
+          inside = omega (arith, w .follows, part-fits 16 cut);
           is = rw e (written-piece p (textFrom (start + 16) (drop (start + 16) x)) d′ t (w .wrote));
         }
 
