@@ -48,7 +48,7 @@ module _ (t : List ℕ) (i : ℕ) (h : Digits t i) where
 -- ---- a byte's characters
 
 module _ (at b : ℕ) (d : List ℕ) (h : at + 1 < length d) where
-  pub wrote-pair : (u v : ℕ) → u ≡ hexDigit (b / 16) → v ≡ hexDigit (b % 16) → Wrote at (spell (b ∷ [])) d (set (set d at u) (at + 1) v)
+  wrote-pair : (u v : ℕ) → u ≡ hexDigit (b / 16) → v ≡ hexDigit (b % 16) → Wrote at (spell (b ∷ [])) d (set (set d at u) (at + 1) v)
   unfolding spell
   wrote-pair u v e f =
       rw (← e, ← f)
