@@ -135,7 +135,7 @@ offset-within image (suc left) i previous offset e =
     omega (arith, offset-within image left (i + 1) (kindAt image i) (offset + lengthAt image i) (p .others))
 
 -- nor end one there
-bodies-within : (image : List ℕ) (left i previous offset : ℕ) → linesVerdict image left i previous offset ≡ Accepted → (k : ℕ) → k < left
+pub bodies-within : (image : List ℕ) (left i previous offset : ℕ) → linesVerdict image left i previous offset ≡ Accepted → (k : ℕ) → k < left
     → offsetAt image (i + k) + lengthAt image (i + k) ≤ length image
 bodies-within image zero i previous offset e k h = absurd (omega arith)
 bodies-within image (suc left) i previous offset e zero h =

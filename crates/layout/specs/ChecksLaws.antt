@@ -2,13 +2,13 @@
 use mathlib.Core.Bool.{Bool, true, false, not, _&&_}
 use mathlib.Core.List.{List}
 use mathlib.Core.Path.{_≡_, sym, _∙_}
-use Prim.Native.Nat.{ℕ, zero, suc, _+_, _-_, _*_, _%_, _≤_, _<_}
-use native.Mathlib.Nat.{sub-zero}
+use Prim.Native.Nat.{ℕ, _+_, _-_, _*_, _%_, _≤_, _<_}
+use native.Mathlib.Nat.{sub-zero, zero-add}
 use native.Mathlib.Omega.{arith}
 use borrow.Author.Tests.{lt-ltb, eq-eqb, ne-eqb, not-true, not-false}
 use lib.Dec.{leb, eqb}
 use lib.ListN.{length, take, drop, getD}
-use Rattle.laws.specs.Cases.{split, decide}
+use Rattle.laws.specs.Cases.{decide}
 use Rattle.laws.specs.Sums.{total}
 use Rattle.numbers.specs.Fields.{numberAt}
 use Rattle.numbers.specs.FieldsLaws.{byte-at}
@@ -17,9 +17,9 @@ use Rattle.refusals.specs.declared.Verdict.{Verdict}
 use Rattle.refusals.specs.declared.Verdict.the-variants.{Accepted, Refused}
 use Rattle.refusals.specs.Refusals.{refusal, ask}
 use Rattle.refusals.specs.VerdictLaws.{ask-passes, ask-refuses, ask-unpassed}
-use Rattle.image.specs.Layout.{lineCount, linePlace, kindAt, zeroAt, offsetAt, lengthAt, sumAt, startVerdict, countVerdict, lineRight, linesVerdict, sumsVerdict, layoutVerdict}
+use Rattle.image.specs.Layout.{lineCount, linePlace, offsetAt, lengthAt, sumAt, startVerdict, countVerdict, lineRight, linesVerdict, sumsVerdict, layoutVerdict}
 use Rattle.laws.specs.Loops.{one-left, none-left}
-use Rattle.image.specs.LayoutLaws.{Started, start-passes, start-passed, Counted, count-passes, count-passed, Right, passed-right, line-passed, lines-ended}
+use Rattle.image.specs.LayoutLaws.{Started, start-passes, start-passed, Counted, count-passes, count-passed, Right, passed-right, bodies-within}
 use Rattle.layout.specs.Checks.{allLines, Placed, sumRight, allSums}
 
 -- ---- 5
@@ -123,19 +123,6 @@ module _ (image : List ℕ) (count i previous offset : ℕ) (j : Judging image c
 
 -- ---- 8
 
--- the bodies of the lines left start within the image, and end there
-lines-within : (image : List ℕ) (left i previous offset : ℕ) → linesVerdict image left i previous offset ≡ Accepted
-    → (offset ≤ length image) × ((k : ℕ) → i ≤ k → k < i + left → offsetAt image k + lengthAt image k ≤ length image)
-lines-within image zero i previous offset e = (omega (arith, lines-ended image i previous offset e), λ k h more. absurd (omega arith))
-lines-within image (suc left) i previous offset e =
-    let p = line-passed image left i previous offset e in
-    let w = lines-within image left (i + 1) (kindAt image i) (offset + lengthAt image i) (p .others) in (
-      omega (arith, w .0),
-      λ (k : ℕ) (h : i ≤ k) (more : k < i + suc left). split (i + 1) k
-          (λ (after : i + 1 ≤ k). w .1 k after (omega arith))
-          (λ (first : k < i + 1). let same : k ≡ i = omega arith in rw (same, p .right .starts) (w .0)),
-    )
-
 pub body-there : (image : List ℕ) (count i : ℕ) → Placed image → count ≡ lineCount image → i < count → offsetAt image i + lengthAt image i ≤ length image
 body-there image count i p c h = p .within i (omega arith)
 
@@ -176,7 +163,7 @@ module _ (image : List ℕ) (count : Verdict) (c : count ≡ countVerdict image)
       record {
         room = roomed;
         within = λ (i : ℕ) (h : i < lineCount image).
-            lines-within image (lineCount image) 0 0 (linePlace (lineCount image)) (sym l ∙ l-passed) .1 i (omega arith) (omega arith);
+            rw (zero-add i) at (bodies-within image (lineCount image) 0 0 (linePlace (lineCount image)) (sym l ∙ l-passed) i h);
       }
 
 module _ (image : List ℕ) (start : Verdict) (s : start ≡ startVerdict image) where
