@@ -69,7 +69,7 @@ module _ (l : List ℕ) (n : ℕ) (d d′ : List ℕ) (to s worst i : ℕ) (h : 
       record {
         within = omega arith;
         small = omega arith;
-        passed = λ z. rw e (passed-more l i s byte (h .passed (omega arith)) (omega arith) (spelled (omega arith)));
+        passed = λ z. rw e (passed-more l i s _ (h .passed (omega arith)) (omega arith) (spelled (omega arith)));
         wrote = λ z.
             rw (h .wrote (omega arith), spelled (omega arith) .is, ← getD-bytesOf l 9 i (omega arith), add-one i)
             (paste-suc d to (bytesOf (drop 9 l)) i 0 (omega arith) (omega (arith, length-bytesOf l 9 n (omega arith))));
@@ -77,9 +77,6 @@ module _ (l : List ℕ) (n : ℕ) (d d′ : List ℕ) (to s worst i : ℕ) (h : 
         kept = simp length-set (h .kept);
       }
     where
-      byte : ℕ
-      byte = high % 16 * 16 + low % 16
-
       after : Value 255 (getD l (9 + i * 2 + 1) 0) low
       after = let o : 9 + i * 2 + 1 ≡ 10 + i * 2 = omega arith in rw o q
 
