@@ -86,7 +86,6 @@ module _ (detail multiplier : ℕ) (difference : ℤ) where
       let low = rounded-low (2 ^ 32) (lit< tt) (pos multiplier *ℤ difference) in
       e ∙ within-beyond (2 ^ 24) 24 detail (rounded (pos multiplier *ℤ difference) (2 ^ 32)) (omega arith)
 
-  -- as it is for every set that is right
   pub near-fits : multiplier ≤ 2 ^ 30 → natAbs difference < 2 ^ 33 → SFits w64 (pos multiplier *ℤ difference)
   near-fits h k =
       let l : natAbs difference ≤ 2 ^ 33 - 1 = omega arith in

@@ -42,7 +42,7 @@ fn scaled(detail: u64, multiplier: u32, difference: i64) -> Value
 {
     let factor = multiplier as u64;
     let distance = whole::magnitude(difference);
-    // so it is for every set that is right, and a division is spared
+    // the product fits, as by every set that is right it does, so that no reading waits for a division
     if factor <= 1073741824 {
         if distance < 8589934592 {
             return scaled_product(detail, multiplier, difference);
