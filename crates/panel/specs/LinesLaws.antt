@@ -1,12 +1,12 @@
 -- Laws of the contents lines of a good layout: their bytes are there, and the first kinds stand at the first lines.
 use mathlib.Core.Path.{_≡_, refl, sym, _∙_}
-use mathlib.Core.Bool.{Bool, true, false, cond}
+use mathlib.Core.Bool.{Bool, true, false, cond, not}
 use mathlib.Core.List.{List}
 use mathlib.Core.Option.{none, some}
 use Prim.Native.Nat.{ℕ, _+_, _-_, _≤_, _<_}
 use native.Mathlib.Nat.{sub-zero}
 use native.Mathlib.Omega.{arith}
-use borrow.Author.Tests.{eq-eqb, eqb-true, ne-eqb}
+use borrow.Author.Tests.{eq-eqb, eqb-true, ne-eqb, not-false}
 use lib.Dec.{eqb}
 use lib.ListN.{length, take, drop}
 use Rattle.laws.specs.Cases.{split, decide, never}
@@ -60,7 +60,7 @@ none-leads image good =
       ascends = rw (sub-zero (lineCount image)) (sections-ascend image good);
     }
 
-module _ (image : List ℕ) (line : ℕ) (l : Leads image line) where
+module _ (line : ℕ) (image : List ℕ) (l : Leads image line) where
   next-past : lineCount image ≤ line → bodyOf (line + 1) (sections image) ≡ none
   unfolding bodyOf sectionsFrom
   next-past end = l .others (line + 1) (omega arith) ∙ rw (none-left (lineCount image) line end)
@@ -100,10 +100,10 @@ module _ (image : List ℕ) (line : ℕ) (l : Leads image line) where
       → eqb (line + 1) kind ≡ isThere (bodyOf (line + 1) (sections image))
   next-here count kind c more k = rw (next-body (omega arith), k) (decide (eqb (line + 1) (kindAt image line)) (λ e. rw e) (λ e. rw e))
 
-  module _ (b : Bool) (e : b ≡ isThere (bodyOf (line + 1) (sections image))) (t : b ≡ true) where
+  module _ (b : Bool) (e : b ≡ isThere (bodyOf (line + 1) (sections image))) (t : not b ≡ false) where
     pub next-leads : Leads image (line + 1)
     next-leads =
-        let there : isThere (bodyOf (line + 1) (sections image)) ≡ true = sym e ∙ t in
+        let there : isThere (bodyOf (line + 1) (sections image)) ≡ true = sym e ∙ not-false b t in
         split (lineCount image) line
         (λ (end : lineCount image ≤ line). never (rw (next-past end) at there))
         (λ (more : line < lineCount image).
@@ -114,13 +114,20 @@ module _ (image : List ℕ) (line : ℕ) (l : Leads image line) where
     pub next-line : HasLine image line
     next-line = has-line image (l .good) (lineCount image) line refl (omega (arith, next-leads .enough))
 
+module _ (image : List ℕ) (good : layoutVerdict image ≡ Accepted) (b : Bool) (e : b ≡ isThere (bodyOf 1 (sections image))) (t : not b ≡ false) where
+  pub first-leads : Leads image 1
+  first-leads = next-leads 0 image (none-leads image good) b e t
+
+  pub second-leads : (c : Bool) → c ≡ isThere (bodyOf 2 (sections image)) → not c ≡ false → Leads image 2
+  second-leads c f u = next-leads 1 image first-leads c f u
+
 pub first-line : (image : List ℕ) (all line : ℕ) → Leads image all → line < all → HasLine image line
 first-line image all line l h = has-line image (l .good) (lineCount image) line refl (omega (arith, l .enough))
 
 -- ---- where a panel accepts
 
-pub present-leads : (line : ℕ) (image : List ℕ) (v : Verdict) → Leads image line → v ≡ presentVerdict (line + 1) (sections image) → v ≡ Accepted → Leads image (line + 1)
-present-leads line image v l e a = next-leads image line l true (sym (asked _ 10 (line + 1) (sym e ∙ a))) refl
+present-leads : (line : ℕ) (image : List ℕ) → Leads image line → presentVerdict (line + 1) (sections image) ≡ Accepted → Leads image (line + 1)
+present-leads line image l e = next-leads line image l true (sym (asked _ 10 (line + 1) e)) refl
 
 pub verdict-leads : (level : ℕ) (image : List ℕ) (v : Verdict) → v ≡ verdictOf level image → v ≡ Accepted → Leads image 3
 unfolding verdictOf sectionsVerdict missingVerdict
@@ -130,4 +137,4 @@ verdict-leads level image v e a =
     let first : presentVerdict 1 (sections image) ≡ Accepted = search (first-passed, next-passed) in
     let second : presentVerdict 2 (sections image) ≡ Accepted = search (first-passed, next-passed) in
     let third : presentVerdict 3 (sections image) ≡ Accepted = search (first-passed, next-passed) in
-    present-leads 2 image _ (present-leads 1 image _ (present-leads 0 image _ (none-leads image laid) refl first) refl second) refl third
+    present-leads 2 image (present-leads 1 image (present-leads 0 image (none-leads image laid) first) second) third

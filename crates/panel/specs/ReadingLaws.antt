@@ -1,11 +1,12 @@
 -- Each way out of the reading of an image.
 use mathlib.Core.Path.{_≡_, refl, sym, _∙_}
-use mathlib.Core.Bool.{Bool, true, false}
+use mathlib.Core.Bool.{Bool, true, false, not}
 use mathlib.Core.List.{List}
 use mathlib.Core.Option.{Option, none, some}
 use Prim.Native.Nat.{ℕ}
 use native.Mathlib.Omega.{arith}
 use lib.IntN.{ℤ}
+use borrow.Author.Tests.{not-true}
 use Rattle.laws.specs.Cases.{never}
 use Rattle.refusals.specs.declared.Refusal.{Refusal}
 use Rattle.refusals.specs.declared.Verdict.{Verdict}
@@ -30,12 +31,12 @@ use Rattle.panel.specs.Reading.{trimmingOf, sectionsReading, readingOf}
 use Rattle.panel.specs.LinesLaws.{Leads, next-leads}
 
 module _ (image : List ℕ) (b : Bool) (e : b ≡ isThere (bodyOf 4 (sections image))) where
-  pub trimmed-by : (body : List ℕ) (trim : Trim) → Leads image 3 → b ≡ true → body ≡ bodyAt image 3 → trim ≡ trimOf body
+  pub trimmed-by : (body : List ℕ) (trim : Trim) → Leads image 3 → not b ≡ false → body ≡ bodyAt image 3 → trim ≡ trimOf body
       → By trim ≡ trimmingOf (bodyOf 4 (sections image))
-  trimmed-by body trim l t h f = rw (next-leads image 3 l b e t .bodies 3 (omega arith), f, h)
+  trimmed-by body trim l t h f = rw (next-leads 3 image l b e t .bodies 3 (omega arith), f, h)
 
-  pub untrimmed : b ≡ false → Untrimmed ≡ trimmingOf (bodyOf 4 (sections image))
-  untrimmed t = by (bodyOf 4 (sections image)) (sym e ∙ t)
+  pub untrimmed : not b ≡ true → Untrimmed ≡ trimmingOf (bodyOf 4 (sections image))
+  untrimmed t = by (bodyOf 4 (sections image)) (sym e ∙ not-true b t)
     where
       by : (o : Option (List ℕ)) → isThere o ≡ false → Untrimmed ≡ trimmingOf o
       by none f = refl

@@ -11,7 +11,7 @@ use Rattle.laws.specs.Loops.{one-left, none-left}
 use Rattle.refusals.specs.declared.Refusal.{Refusal}
 use Rattle.refusals.specs.declared.Verdict.{Verdict}
 use Rattle.refusals.specs.declared.Verdict.the-variants.{Accepted, Refused}
-use Rattle.refusals.specs.Refusals.{refusal}
+use Rattle.refusals.specs.Refusals.{refusal, andThen}
 use Rattle.image.specs.Layout.{lineCount, kindAt, bodyAt, layoutVerdict}
 use Rattle.image.specs.Sections.{Section, sectionsFrom, sections}
 use Rattle.image.specs.Find.{bodyOf, isThere}
@@ -65,11 +65,14 @@ module _ (image : List ℕ) (level count i : ℕ) (p : Passing (unknownVerdict l
 -- ---- 10
 
 module _ (kind : ℕ) (ss : List Section) (b : Bool) (e : b ≡ isThere (bodyOf kind ss)) where
-  pub is-present : b ≡ true → Accepted ≡ presentVerdict kind ss
-  is-present t = rw (← e, t)
+  pub is-present : not b ≡ false → Accepted ≡ presentVerdict kind ss
+  is-present t = rw (← e, not-false b t)
 
-  pub is-missing : {r : Verdict} → r ≡ Refused (refusal 10 kind) → b ≡ false → r ≡ presentVerdict kind ss
-  is-missing f t = rw (← e, t) f
+  pub next-after : {r next : Verdict} → not b ≡ false → r ≡ next → r ≡ andThen (presentVerdict kind ss) next
+  next-after t f = rw (← e, not-false b t) f
+
+  pub is-missing : {r : Verdict} → r ≡ Refused (refusal 10 kind) → not b ≡ true → r ≡ presentVerdict kind ss
+  is-missing f t = rw (← e, not-true b t) f
 
 -- ---- 11 to 16
 

@@ -14,10 +14,10 @@ fn trimming(image: &[u8]) -> Trimming
     requires { ⌜ Leads (now image) 3 ⌝ }
     ensures { λ r. ⌜ r ≡ trimmingOf (bodyOf 4 (sections (now (image .entry)))) ⌝ }
 {
-    if lines::has_next(image, 3) {
-        return Trimming::By(bodies::read_trim(lines::body(image, 3)));
+    if !lines::has_next(image, 3) {
+        return Trimming::Untrimmed;
     }
-    Trimming::Untrimmed
+    Trimming::By(bodies::read_trim(lines::body(image, 3)))
 }
 
 fn measured(image: &[u8], counts: Counts) -> Answer

@@ -3,12 +3,11 @@ use crate::lines;
 use refusals::Verdict;
 use refusals::refused;
 ghost use mathlib.Core.Path.{_≡_};
-ghost use Prim.Native.Nat.{_+_, _<_};
 ghost use Rattle.image.specs.Layout.{layoutVerdict};
 ghost use Rattle.image.specs.Sections.{sections};
-ghost use Rattle.panel.specs.LinesLaws.{HasLine, Leads};
+ghost use Rattle.panel.specs.LinesLaws.{HasLine};
 ghost use Rattle.panel.specs.BodiesLaws.{lineVerdict};
-ghost use Rattle.panel.specs.Verdict.{levelVerdict, unknownVerdict, presentVerdict, missingVerdict, kindVerdict, bodiesVerdict, sectionsVerdict, verdictOf};
+ghost use Rattle.panel.specs.Verdict.{levelVerdict, unknownVerdict, missingVerdict, kindVerdict, bodiesVerdict, sectionsVerdict, verdictOf};
 
 // Refusal 20.
 fn level_verdict(level: u32) -> Verdict
@@ -37,31 +36,21 @@ fn unknown_verdict(image: &[u8], level: u32) -> Verdict
     Verdict::Accepted
 }
 
-// Kind line + 1, where the kinds below it are there.
-fn present_verdict(image: &[u8], line: usize) -> Verdict
-    requires { ⌜ Leads (now image) line × (line < 3) ⌝ }
-    ensures { λ r. ⌜ r ≡ presentVerdict (line + 1) (sections (now (image .entry))) ⌝ }
-{
-    if lines::has_next(image, line) {
-        return Verdict::Accepted;
-    }
-    refused(10, line as u64 + 1)
-}
-
 // Refusal 10.
 fn missing_verdict(image: &[u8]) -> Verdict
     requires { ⌜ layoutVerdict (now image) ≡ Verdict.Accepted ⌝ }
     ensures { λ r. ⌜ r ≡ missingVerdict (sections (now (image .entry))) ⌝ }
 {
-    let first = present_verdict(image, 0);
-    let Verdict::Accepted = first else {
-        return first;
-    };
-    let second = present_verdict(image, 1);
-    let Verdict::Accepted = second else {
-        return second;
-    };
-    present_verdict(image, 2)
+    if !lines::has_next(image, 0) {
+        return refused(10, 1);
+    }
+    if !lines::has_next(image, 1) {
+        return refused(10, 2);
+    }
+    if !lines::has_next(image, 2) {
+        return refused(10, 3);
+    }
+    Verdict::Accepted
 }
 
 // The body of a kind, wherever it stands.

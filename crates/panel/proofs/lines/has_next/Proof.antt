@@ -3,25 +3,23 @@ use Rattle.panel.specs.LinesLaws.{has-line, no-next, next-here}
 use Rattle.panel.proofs.lines.has_next.Statement.{statement}
 use Rattle.panel.proofs.lines.has_next.Tie as tie
 
-ruleset laws = (needs, has-line, no-next, next-here)
-
 count-requires : tie.Need-count-requires
-count-requires c κs = search laws
+count-requires c κs = search needs
 
 returns : tie.Need-returns
-returns c = search laws
+returns c = search (needs, no-next)
 
 add-result : tie.Need-add-result
-add-result c = search laws
+add-result c = search needs
 
 kind-requires : tie.Need-kind-requires
-kind-requires c κs = search laws
+kind-requires c κs = search (needs, has-line)
 
 cast-result : tie.Need-cast-result
-cast-result c = search laws
+cast-result c = search needs
 
 returns-2 : tie.Need-returns-2
-returns-2 c = search laws
+returns-2 c = search (needs, next-here)
 
 pub has-next-spec : {M : Type 1} → statement M
 has-next-spec =

@@ -4,40 +4,38 @@ use Rattle.panel.specs.ReadingLaws.{sections-measured}
 use Rattle.panel.proofs.readings.measured.Statement.{statement}
 use Rattle.panel.proofs.readings.measured.Tie as tie
 
-ruleset laws = (needs, first-line, sections-measured)
-
 body-requires : tie.Need-body-requires
-body-requires c κs = search laws
+body-requires c κs = search (needs, first-line)
 
 read-identity-requires : tie.Need-read-identity-requires
-read-identity-requires c κs = search laws
+read-identity-requires c κs = search needs
 
 body-requires-2 : tie.Need-body-requires-2
-body-requires-2 c κs = search laws
+body-requires-2 c κs = search (needs, first-line)
 
 body-requires-3 : tie.Need-body-requires-3
-body-requires-3 c κs = search laws
+body-requires-3 c κs = search (needs, first-line)
 
 read-set-requires : tie.Need-read-set-requires
-read-set-requires c κs = search laws
+read-set-requires c κs = search needs
 
 read-grid-requires : tie.Need-read-grid-requires
-read-grid-requires c κs = search laws
+read-grid-requires c κs = search needs
 
 read-set-requires-2 : tie.Need-read-set-requires-2
-read-set-requires-2 c κs = search laws
+read-set-requires-2 c κs = search needs
 
 read-grid-requires-2 : tie.Need-read-grid-requires-2
-read-grid-requires-2 c κs = search laws
+read-grid-requires-2 c κs = search needs
 
 trimming-requires : tie.Need-trimming-requires
-trimming-requires c κs = search laws
+trimming-requires c κs = search needs
 
 measured-requires : tie.Need-measured-requires
-measured-requires c κs = search laws
+measured-requires c κs = search needs
 
 returns : tie.Need-returns
-returns c = search laws
+returns c = search (needs, sections-measured)
 
 pub measured-spec : {M : Type 1} → statement M
 measured-spec =

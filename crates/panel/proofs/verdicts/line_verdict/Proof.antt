@@ -3,25 +3,23 @@ use Rattle.panel.specs.VerdictLaws.{kind-not-known, body-judged}
 use Rattle.panel.proofs.verdicts.line_verdict.Statement.{statement}
 use Rattle.panel.proofs.verdicts.line_verdict.Tie as tie
 
-ruleset laws = (needs, kind-not-known, body-judged)
-
 kind-requires : tie.Need-kind-requires
-kind-requires c κs = search laws
+kind-requires c κs = search needs
 
 knows-requires : tie.Need-knows-requires
-knows-requires c κs = search laws
+knows-requires c κs = search needs
 
 returns : tie.Need-returns
-returns c = search laws
+returns c = search (needs, kind-not-known)
 
 body-requires : tie.Need-body-requires
-body-requires c κs = search laws
+body-requires c κs = search needs
 
 kind-verdict-requires : tie.Need-kind-verdict-requires
-kind-verdict-requires c κs = search laws
+kind-verdict-requires c κs = search needs
 
 returns-2 : tie.Need-returns-2
-returns-2 c = search laws
+returns-2 c = search (needs, body-judged)
 
 pub line-verdict-spec : {M : Type 1} → statement M
 line-verdict-spec =

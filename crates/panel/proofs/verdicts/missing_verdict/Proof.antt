@@ -1,56 +1,60 @@
 use borrow.Author.Needs.{needs}
-use Rattle.refusals.specs.VerdictLaws.{stops-there, goes-on}
+use Rattle.refusals.specs.VerdictLaws.{stops-there}
 use Rattle.panel.specs.Verdict.{missingVerdict}
-use Rattle.panel.specs.LinesLaws.{none-leads, present-leads}
+use Rattle.panel.specs.LinesLaws.{none-leads, first-leads, second-leads}
+use Rattle.panel.specs.VerdictLaws.{is-missing, next-after, is-present}
 use Rattle.panel.proofs.verdicts.missing_verdict.Statement.{statement}
 use Rattle.panel.proofs.verdicts.missing_verdict.Tie as tie
 
-ruleset laws = (needs, stops-there, goes-on, none-leads)
+ruleset laws = (needs, stops-there, is-missing, next-after, is-present)
 
-present-verdict-requires : tie.Need-present-verdict-requires
-present-verdict-requires c κs = search laws
+has-next-requires : tie.Need-has-next-requires
+has-next-requires c κs = search (needs, none-leads)
 
-enum-told : tie.Need-enum-told
-enum-told c = search laws
-
-enum-told-2 : tie.Need-enum-told-2
-enum-told-2 c = search laws
+refused-requires : tie.Need-refused-requires
+refused-requires c κs = search laws
 
 returns : tie.Need-returns
 unfolding missingVerdict
 returns c = search laws
 
-present-verdict-requires-2 : tie.Need-present-verdict-requires-2
-present-verdict-requires-2 c κs = search (laws, present-leads 0)
+has-next-requires-2 : tie.Need-has-next-requires-2
+has-next-requires-2 c κs = search (needs, first-leads)
 
-enum-told-3 : tie.Need-enum-told-3
-enum-told-3 c = search laws
-
-enum-told-4 : tie.Need-enum-told-4
-enum-told-4 c = search laws
+refused-requires-2 : tie.Need-refused-requires-2
+refused-requires-2 c κs = search laws
 
 returns-2 : tie.Need-returns-2
 unfolding missingVerdict
 returns-2 c = search laws
 
-present-verdict-requires-3 : tie.Need-present-verdict-requires-3
-present-verdict-requires-3 c κs = search (laws, present-leads 0, present-leads 1)
+has-next-requires-3 : tie.Need-has-next-requires-3
+has-next-requires-3 c κs =
+    let first = c .before .before in
+    second-leads _ (first .before .before .before .pre) _ (first .before .has-next .ensures) (first .if1 .left) _ (c .before .has-next2 .ensures) (c .if2 .left)
+
+refused-requires-3 : tie.Need-refused-requires-3
+refused-requires-3 c κs = search laws
 
 returns-3 : tie.Need-returns-3
 unfolding missingVerdict
 returns-3 c = search laws
 
+returns-4 : tie.Need-returns-4
+unfolding missingVerdict
+returns-4 c = search laws
+
 pub missing-verdict-spec : {M : Type 1} → statement M
 missing-verdict-spec =
     tie.close
     (tie.spec
-    present-verdict-requires
-    enum-told
-    enum-told-2
+    has-next-requires
+    refused-requires
     returns
-    present-verdict-requires-2
-    enum-told-3
-    enum-told-4
+    has-next-requires-2
+    refused-requires-2
     returns-2
-    present-verdict-requires-3
-    returns-3)
+    has-next-requires-3
+    refused-requires-3
+    returns-3
+    returns-4)
