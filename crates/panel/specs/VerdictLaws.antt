@@ -13,6 +13,7 @@ use Rattle.refusals.specs.declared.Verdict.{Verdict}
 use Rattle.refusals.specs.declared.Verdict.the-variants.{Accepted, Refused}
 use Rattle.refusals.specs.Refusals.{refusal, andThen}
 use Rattle.image.specs.Layout.{lineCount, kindAt, bodyAt, layoutVerdict}
+use Rattle.image.specs.LayoutLaws.{layout-passed}
 use Rattle.image.specs.Sections.{Section, sectionsFrom, sections}
 use Rattle.image.specs.Find.{bodyOf, isThere}
 use Rattle.image.specs.OrderLaws.{sections-ascend}
@@ -37,10 +38,11 @@ layout-good image v e a = sym e ∙ a
 
 pub record Passing (verdict : List Section → Verdict) (image : List ℕ) (count i : ℕ) : Type 0 where
   pub rest : verdict (sectionsFrom image (count - i) i) ≡ verdict (sections image)
+  pub few : count ≤ 16
 
-pub passing-first : (verdict : List Section → Verdict) (image : List ℕ) (count : ℕ) → count ≡ lineCount image → Passing verdict image count 0
+pub passing-first : (verdict : List Section → Verdict) (image : List ℕ) (count : ℕ) → layoutVerdict image ≡ Accepted → count ≡ lineCount image → Passing verdict image count 0
 unfolding sections
-passing-first verdict image count c = record { rest = rw (sub-zero count, c) }
+passing-first verdict image count good c = record { rest = rw (sub-zero count, c); few = omega (arith, layout-passed image good .counted .few) }
 
 -- ---- 9
 
@@ -50,7 +52,7 @@ module _ (image : List ℕ) (level count i : ℕ) (p : Passing (unknownVerdict l
     unfolding unknownVerdict sectionsFrom
     passing-more t =
         let passed : mayPass level (kindAt image i) ≡ true = rw k at (sym e ∙ not-false b t) in
-        record { rest = rw (one-left count i more, passed) at (p .rest) }
+        record { rest = rw (one-left count i more, passed) at (p .rest); few = p .few }
 
     pub unknown-here : {r : Verdict} → r ≡ Refused (refusal 9 kind) → not b ≡ true → r ≡ unknownVerdict level (sections image)
     unfolding unknownVerdict sectionsFrom
@@ -115,7 +117,7 @@ module _ (image : List ℕ) (level count i : ℕ) (p : Passing (sectionBySection
   module _ (more : i < count) (v : Verdict) (e : v ≡ lineVerdict level image i) where
     pub bodies-more : v ≡ Accepted → Passing (sectionBySection level) image count (i + 1)
     unfolding sectionBySection sectionsFrom
-    bodies-more a = record { rest = rw (one-left count i more, ← e, a) at (p .rest) }
+    bodies-more a = record { rest = rw (one-left count i more, ← e, a) at (p .rest); few = p .few }
 
     pub body-refused : layoutVerdict image ≡ Accepted → (r : Refusal) → v ≡ Refused r → v ≡ bodiesVerdict level (sections image)
     unfolding sectionBySection sectionsFrom
