@@ -20,9 +20,7 @@ fn two_bytes(image: &[u8], place: usize) -> usize
     requires { ⌜ place + 2 ≤ length (now image) ⌝ }
     ensures { λ r. ⌜ r ≡ numberAt 2 (now (image .entry)) place ⌝ }
 {
-    let low = byte(image, place) as usize;
-    let high = byte(image, place + 1) as usize;
-    low + 256 * high
+    numbers::fields::number_of_2([image[place], image[place + 1]]) as usize
 }
 
 pub fn count(image: &[u8]) -> usize

@@ -1,41 +1,29 @@
 use borrow.Author.Needs.{needs}
-use Rattle.numbers.specs.FieldsLaws.{number-of-halves}
+use Rattle.numbers.specs.FieldsLaws.{number-of-bytes}
 use Rattle.panel.proofs.lines.two_bytes.Statement.{statement}
 use Rattle.panel.proofs.lines.two_bytes.Tie as tie
 
-byte-requires : tie.Need-byte-requires
-byte-requires c κs = search needs
+ruleset laws = (needs, number-of-bytes)
 
-cast-low : tie.Need-cast-low
-cast-low c = search needs
+shared-slice-read-t5 : tie.Need-shared-slice-read-t5
+shared-slice-read-t5 c = search laws
 
-add-byte : tie.Need-add-byte
-add-byte c = search needs
+add-t6 : tie.Need-add-t6
+add-t6 c = search laws
 
-byte-requires-2 : tie.Need-byte-requires-2
-byte-requires-2 c κs = search needs
+shared-slice-read-t8 : tie.Need-shared-slice-read-t8
+shared-slice-read-t8 c = search laws
 
-cast-high : tie.Need-cast-high
-cast-high c = search needs
+number-of-2-requires : tie.Need-number-of-2-requires
+number-of-2-requires c κs = search laws
 
-mul-result : tie.Need-mul-result
-mul-result c = search needs
-
-add-result : tie.Need-add-result
-add-result c = search needs
+cast-result : tie.Need-cast-result
+cast-result c = search laws
 
 returns : tie.Need-returns
-returns c = search (needs, number-of-halves 1 1)
+returns c = search laws
 
 pub two-bytes-spec : {M : Type 1} → statement M
 two-bytes-spec =
     tie.close
-    (tie.spec
-    byte-requires
-    cast-low
-    add-byte
-    byte-requires-2
-    cast-high
-    mul-result
-    add-result
-    returns)
+    (tie.spec shared-slice-read-t5 add-t6 shared-slice-read-t8 number-of-2-requires cast-result returns)
