@@ -1,15 +1,16 @@
 -- A signed number and the bits that hold it.
 use mathlib.Core.Path.{_≡_, refl, ap, _∙_}
 use mathlib.Core.Bool.{true}
-use Prim.Native.Nat.{ℕ, zero, suc, _-_, _^_, _≤_, _<_}
+use Prim.Native.Nat.{ℕ, zero, suc, _+_, _-_, _^_, _≤_, _<_}
 use native.Mathlib.Nat.{le-refl, zero-add}
 use native.Mathlib.Omega.{arith}
 use borrow.Author.Tests.{ltb-true}
-use lib.IntN.{ℤ, pos, negsuc, natAbs, _-ℤ_}
+use lib.IntN.{ℤ, pos, negsuc, natAbs, _+ℤ_, _-ℤ_}
 use lib.Signed.{mag, ltZ}
 use mir.Syntax.{Width, w64}
 use mir.Val.{SFits, toZ, ofZ, hbits}
 use mir.Facts.{toZ-ofZ}
+use Rattle.laws.specs.Linear.{over, under, sum-parts}
 use Rattle.laws.specs.Magnitude.{difference-ge}
 
 magnitude-bounds : (z : ℤ) → mag z ≤ natAbs z
@@ -18,6 +19,22 @@ magnitude-bounds (negsuc n) = omega arith
 
 pub fits-64 : {z : ℤ} → natAbs z < 2 ^ 63 → SFits w64 z
 fits-64 {z} h = let m = magnitude-bounds z in record { sfits = omega arith }
+
+pub distance-of-fitting : (z : ℤ) → SFits w64 z → natAbs z ≤ 2 ^ 63
+distance-of-fitting (pos n) f = omega (arith, f .sfits)
+distance-of-fitting (negsuc n) f = omega (arith, f .sfits)
+
+pub parts-that-fit : (z : ℤ) → SFits w64 z → (over z < 2 ^ 63) × (under z ≤ 2 ^ 63)
+parts-that-fit (pos n) f = (omega (arith, f .sfits), omega arith)
+parts-that-fit (negsuc n) f = (omega arith, omega (arith, f .sfits))
+
+-- a sum fits by what its terms are over and under 0
+pub sum-fits-64 : (a b : ℤ) → over a + over b < under a + under b + 2 ^ 63 → under a + under b ≤ over a + over b + 2 ^ 63 → SFits w64 (a +ℤ b)
+sum-fits-64 a b h k = go (a +ℤ b) (sum-parts a b)
+  where
+    go : (z : ℤ) → over z + (under a + under b) ≡ over a + over b + under z → SFits w64 z
+    go (pos n) e = record { sfits = omega arith }
+    go (negsuc n) e = record { sfits = omega arith }
 
 -- what a call gave is read back from its bits; its range is the field `ok`
 pub read-back : (w : Width) (z : ℤ) → mag z < 2 ^ hbits w → toZ w (ofZ w z) ≡ z

@@ -1,3 +1,5 @@
 pub mod Rounded
 pub mod RoundedLaws
+pub mod Wrapped
+pub mod WrappedLaws
 pub mod Examples

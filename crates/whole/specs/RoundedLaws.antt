@@ -8,13 +8,13 @@ use native.Mathlib.Omega.{arith}
 use borrow.Author.Tests.{ltb-true, ltb-false}
 use lib.Dec.{ltb}
 use lib.IntN.{ℤ, pos, negsuc, negℤ, natAbs, subℕ, _+ℤ_, _-ℤ_, _*ℤ_, *ℤ-comm}
-use lib.Signed.{_≤ℤ_}
+use lib.Signed.{_≤ℤ_, shrZ}
 use mir.Syntax.{w64}
 use mir.Val.{Fits}
 use Rattle.laws.specs.Cases.{split, positive}
 use Rattle.laws.specs.Magnitude.{difference-ge, difference-lt, magnitude-product, magnitude-sum-low, magnitude-difference-low, magnitude-negated}
 use Rattle.laws.specs.Ring.{distributive-left, associative, product-negated}
-use Rattle.laws.specs.Linear.{over, under, sum-parts, product-over, product-under, order-of-parts, parts-of-order, distance}
+use Rattle.laws.specs.Linear.{over, under, sum-parts, negated-over, negated-under, product-over, product-under, order-of-parts, parts-of-order, same-parts, distance}
 use Rattle.whole.specs.Rounded.{floorDiv, rounded}
 
 -- ---- floorDiv z m is the greatest q with q × m ≤ z
@@ -139,31 +139,27 @@ module _ (n d : ℕ) where
           let two : 2 ≤ d = omega (arith, mod-lt n p) in
           record { fits = omega (arith, f .fits, div-mul-le-self n d, mul-le-mul-left (n / d) two) }
 
--- ---- and a negative number by a natural: where its halves go
+-- ---- and whole numbers by a shift: where the denominator is twice h
 
-pub rounded-below-zero : (a d : ℕ) → 0 < d → d % 2 ≡ 0 → rounded (negsuc a) d ≡ negℤ (rounded (pos a) d)
-unfolding rounded
-rounded-below-zero a d p even = rw two (go (ltb d (suc (suc (2 * a)))) refl)
-  where
-    q : 0 < 2 * d
-    q = omega arith
+twice-floored : (z : ℤ) (d : ℕ) → floorDiv (pos 2 *ℤ z) (2 * d) ≡ floorDiv z d
+twice-floored (pos a) d = let e : 2 * a / 2 ≡ a = omega arith in rw (← div-div-eq-div-mul (2 * a) 2 d, e)
+twice-floored (negsuc a) d =
+    let two : 2 * suc a ≡ suc (2 * a + 1) = omega arith in
+    let e : (2 * a + 1) / 2 ≡ a = omega arith in
+    rw (two, ← div-div-eq-div-mul (2 * a + 1) 2 d, e)
 
-    two : 2 * suc a ≡ suc (suc (2 * a))
-    two = omega arith
+module _ (n : ℤ) (h d : ℕ) (t : h + h ≡ d) where
+  pub rounded-by-more : shrZ (n +ℤ pos h) d ≡ rounded n d
+  unfolding rounded
+  rounded-by-more =
+      let e : pos 2 *ℤ n +ℤ pos d ≡ pos 2 *ℤ (n +ℤ pos h) = rw (distributive-left (pos 2) n (pos h)) (ap (λ (k : ℕ). pos 2 *ℤ n +ℤ pos k) (omega arith)) in
+      rw (e, twice-floored (n +ℤ pos h) d)
 
-    -- one unit more below a half changes nothing, since 2 d is a multiple of 4
-    same : (2 * a + 1 + d) / (2 * d) ≡ (2 * a + d) / (2 * d)
-    same =
-        let e : (2 * a + 1 + d) / 2 ≡ (2 * a + d) / 2 = omega arith in
-        rw (← div-div-eq-div-mul (2 * a + 1 + d) 2 d, ← div-div-eq-div-mul (2 * a + d) 2 d, e)
-
-    go : (t : Bool) → ltb d (suc (suc (2 * a))) ≡ t → floorDiv (subℕ d (suc (suc (2 * a)))) (2 * d) ≡ negℤ (pos ((2 * a + d) / (2 * d)))
-    go true e =
-        let h = ltb-true d (suc (suc (2 * a))) e in
-        let s : 2 * a + 1 + d ≡ (suc (suc (2 * a)) - suc d) + 2 * d = omega arith in
-        rw (← same, difference-lt d (suc (suc (2 * a))) h, s, add-div-right (suc (suc (2 * a)) - suc d) q, add-one)
-    go false e =
-        let h = ltb-false d (suc (suc (2 * a))) e in
-        let l : 2 * a + d < 2 * d = omega arith in
-        let m : d - suc (suc (2 * a)) < 2 * d = omega arith in
-        rw (difference-ge d (suc (suc (2 * a))) h, div-eq-of-lt l, div-eq-of-lt m)
+  -- where n + h is too large a number, n - h is not
+  pub rounded-by-less : 0 < h → h + under n ≤ over n → shrZ (n -ℤ pos h) d +ℤ pos 1 ≡ rounded n d
+  rounded-by-less p k =
+      let a : ℕ = over n - (h + under n) in
+      let low : n -ℤ pos h ≡ pos a = same-parts (n -ℤ pos h) (pos a) (omega (arith, sum-parts n (negℤ (pos h)), negated-over (pos h), negated-under (pos h))) in
+      let high : n +ℤ pos h ≡ pos (a + d) = same-parts (n +ℤ pos h) (pos (a + d)) (omega (arith, sum-parts n (pos h))) in
+      let q : 0 < d = omega arith in
+      rw low (ap pos (sym (add-div-right a q)) ∙ sym (ap (λ (z : ℤ). shrZ z d) high) ∙ rounded-by-more)

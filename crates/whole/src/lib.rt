@@ -4,7 +4,8 @@ use crate::sign::natural;
 ghost use mathlib.Core.Path.{_≡_};
 ghost use mathlib.Core.Bool.{not, _&&_};
 ghost use lib.Dec.{leb};
-ghost use lib.IntN.{natAbs};
+ghost use lib.IntN.{natAbs, _+ℤ_};
+ghost use Rattle.whole.specs.Wrapped.{wrapped};
 
 // n / d to the nearest whole number.
 pub mod rounding;
@@ -31,5 +32,26 @@ pub fn outside(low: u64, number: u64, high: u64) -> bool
 pub fn beyond(number: i64, limit: u64) -> bool
     ensures { λ r. ⌜ r ≡ not (leb (natAbs number) limit) ⌝ }
 {
-    limit < magnitude(number)
+    if 9223372036854775807 < limit {
+        return false;
+    }
+    let most = limit as i64;
+    // not by the magnitude: the compiler makes one test of these two
+    number < -most || most < number
+}
+
+// a + b, or where that does not fit the number that differs from it by 2^64: to the compiler one addition.
+pub fn wrapped_sum(a: i64, b: i64) -> i64
+    ensures { λ r. ⌜ r ≡ wrapped (a +ℤ b) ⌝ }
+{
+    if b < 0 {
+        if a < -9223372036854775808 - b {
+            return (a + 9223372036854775807) + (b + 9223372036854775807) + 2;
+        }
+        return a + b;
+    }
+    if 9223372036854775807 - b < a {
+        return (a - 9223372036854775807) + (b - 9223372036854775807) - 2;
+    }
+    a + b
 }

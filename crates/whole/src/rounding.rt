@@ -1,7 +1,5 @@
-use crate::sign::below_minus_one;
-use crate::sign::natural;
 ghost use mathlib.Core.Path.{_≡_};
-ghost use Prim.Native.Nat.{_<_, _%_, _^_};
+ghost use Prim.Native.Nat.{_+_, _<_, _^_};
 ghost use lib.IntN.{pos};
 ghost use Rattle.whole.specs.Rounded.{rounded};
 
@@ -21,33 +19,33 @@ pub fn rounded_quotient(n: u64, d: u64) -> u64
     whole
 }
 
-// Where the halves of negative numbers go is decided here.
-fn rounded_by(n: i64, d: u64) -> i64
-    requires { ⌜ (0 < d) × (d % 2 ≡ 0) ⌝ }
-    ensures { λ r. ⌜ r ≡ rounded n d ⌝ }
+// n / 2^power, where `half` is half of 2^power: the greatest whole number at most (n + half) / 2^power.
+fn rounded_over(n: i64, half: u32, power: u32) -> i64
+    requires { ⌜ (half + half ≡ 2 ^ power) × (power < 64) ⌝ }
+    ensures { λ r. ⌜ r ≡ rounded n (2 ^ power) ⌝ }
 {
-    if n < 0 {
-        // n is -(less + 1): by an even d, less rounds as less + 1 does, but where that is a half, which so goes up
-        let less = below_minus_one(n);
-        return 0 - (rounded_quotient(less, d) as i64);
+    let more = half as i64;
+    // so near the highest number that the sum would not fit
+    if 9223372036854775807 - more < n {
+        return ((n - more) >> power) + 1;
     }
-    rounded_quotient(natural(n), d) as i64
+    (n + more) >> power
 }
 
 pub fn rounded_over_2_24(n: i64) -> i64
     ensures { λ r. ⌜ r ≡ rounded n (2 ^ 24) ⌝ }
 {
-    rounded_by(n, 16777216)
+    rounded_over(n, 8388608, 24)
 }
 
 pub fn rounded_over_2_28(n: i64) -> i64
     ensures { λ r. ⌜ r ≡ rounded n (2 ^ 28) ⌝ }
 {
-    rounded_by(n, 268435456)
+    rounded_over(n, 134217728, 28)
 }
 
 pub fn rounded_over_2_32(n: i64) -> i64
     ensures { λ r. ⌜ r ≡ rounded n (2 ^ 32) ⌝ }
 {
-    rounded_by(n, 4294967296)
+    rounded_over(n, 2147483648, 32)
 }

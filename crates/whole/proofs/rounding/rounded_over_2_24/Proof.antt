@@ -3,11 +3,11 @@ use mir.Facts.{toZ-ofZ}
 use Rattle.whole.proofs.rounding.rounded_over_2_24.Statement.{statement}
 use Rattle.whole.proofs.rounding.rounded_over_2_24.Tie as tie
 
-rounded-by-requires : tie.Need-rounded-by-requires
-rounded-by-requires c κs = search needs
+rounded-over-requires : tie.Need-rounded-over-requires
+rounded-over-requires c κs = search needs
 
 returns : tie.Need-returns
-returns c = rw (toZ-ofZ (record { sfits = c .rounded-by .ok })) (rw (toZ-ofZ (c .before .fits .n)) at (c .rounded-by .ensures))
+returns c = rw (toZ-ofZ (record { sfits = c .rounded-over .ok })) (rw (toZ-ofZ (c .before .fits .n)) at (c .rounded-over .ensures))
 
 pub rounded-over-2-24-spec : {M : Type 1} → statement M
-rounded-over-2-24-spec = tie.close (tie.spec rounded-by-requires returns)
+rounded-over-2-24-spec = tie.close (tie.spec rounded-over-requires returns)
