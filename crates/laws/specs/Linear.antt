@@ -19,6 +19,10 @@ abbrev pub under : ℤ → ℕ
 under (pos n) = 0
 under (negsuc n) = suc n
 
+pub magnitude-parts : (z : ℤ) → natAbs z ≡ over z + under z
+magnitude-parts (pos n) = omega arith
+magnitude-parts (negsuc n) = omega arith
+
 subtracted-parts : (a b : ℕ) → over (subℕ a b) + b ≡ a + under (subℕ a b)
 subtracted-parts a b = go (ltb a b) refl
   where

@@ -43,17 +43,14 @@ module _ (image : List ℕ) (b : Bool) (e : b ≡ isThere (bodyOf 4 (sections im
       by (some body) f = never (sym f)
 
 -- the bodies of kinds 1, 2, 3 are those of the first three lines
-pub sections-measured : (image : List ℕ) (counts : Counts) → Leads image 3 → {r : Answer} {identity : Identity} {pressure temperature : Set} {at-pressure at-temperature : List (List ℤ)} {trimming : Trimming}
-    → r ≡ measuredOf counts identity pressure at-pressure temperature at-temperature trimming
-    → (first second third : List ℕ)
-    → identity ≡ identityOf first → first ≡ bodyAt image 0
-    → pressure ≡ setOf second → at-pressure ≡ gridOf second → second ≡ bodyAt image 1
-    → temperature ≡ setOf third → at-temperature ≡ gridOf third → third ≡ bodyAt image 2
+pub sections-measured : (image : List ℕ) (counts : Counts) → Leads image 3 → {r : Answer} {identity : Identity} {trimming : Trimming} (first second third : List ℕ)
+    → r ≡ measuredOf counts identity (setOf second) (gridOf second) (setOf third) (gridOf third) trimming
+    → identity ≡ identityOf first → first ≡ bodyAt image 0 → second ≡ bodyAt image 1 → third ≡ bodyAt image 2
     → trimming ≡ trimmingOf (bodyOf 4 (sections image))
     → r ≡ sectionsReading (sections image) counts
 unfolding sectionsReading
-sections-measured image counts l e first second third i f p pg s t tg h trim =
-    rw (l .bodies 0 (omega arith), l .bodies 1 (omega arith), l .bodies 2 (omega arith), ← f, ← s, ← h, ← i, ← p, ← pg, ← t, ← tg, ← trim) e
+sections-measured image counts l first second third e i f s t trim =
+    rw (l .bodies 0 (omega arith), l .bodies 1 (omega arith), l .bodies 2 (omega arith), ← f, ← s, ← t, ← i, ← trim) e
 
 module _ (level : ℕ) (image : List ℕ) (counts : Counts) (v : Verdict) (e : v ≡ verdictOf level image) where
   pub reading-taken : {r : Answer} → v ≡ Accepted → r ≡ sectionsReading (sections image) counts → r ≡ readingOf level image counts

@@ -24,16 +24,11 @@ fn measured(image: &[u8], counts: Counts) -> Answer
     requires { ⌜ Leads (now image) 3 ⌝ }
     ensures { λ r. ⌜ r ≡ sectionsReading (sections (now (image .entry))) counts ⌝ }
 {
-    let identity = bodies::read_identity(lines::body(image, 0));
-    let pressure = lines::body(image, 1);
-    let temperature = lines::body(image, 2);
     reading::measured(
         counts,
-        identity,
-        sets::read_set(pressure),
-        sets::read_grid(pressure),
-        sets::read_set(temperature),
-        sets::read_grid(temperature),
+        bodies::read_identity(lines::body(image, 0)),
+        lines::body(image, 1),
+        lines::body(image, 2),
         trimming(image),
     )
 }

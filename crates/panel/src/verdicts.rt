@@ -119,7 +119,8 @@ pub fn verdict(image: &[u8], level: u32) -> Verdict
     let Verdict::Accepted = known else {
         return known;
     };
-    let laid = layout::layout(image);
+    // taken anew: a slice that is only handed on is copied as one, and the next load waits for it
+    let laid = layout::layout(&image[..]);
     let Verdict::Accepted = laid else {
         return laid;
     };

@@ -13,12 +13,13 @@ use lib.Seq.{drop-cons}
 use mir.Syntax.{w64}
 use mir.Val.{SFits, toZ, ofZ}
 use mir.Facts.{toZ-ofZ}
-use Rattle.laws.specs.Magnitude.{magnitude-product-le, magnitude-sum, magnitude-sum-low}
+use Rattle.laws.specs.Magnitude.{magnitude-product-le}
 use Rattle.laws.specs.Pattern.{fits-64}
 use Rattle.whole.specs.Rounded.{rounded}
 use Rattle.whole.specs.RoundedLaws.{rounded-high, rounded-nothing}
+use Rattle.whole.specs.Wrapped.{wrapped}
+use Rattle.whole.specs.WrappedLaws.{wrapped-or-far}
 use Rattle.refusals.specs.declared.Refusal.{Refusal}
-use Rattle.refusals.specs.Refusals.{refusal}
 use Rattle.reading.specs.declared.value.Value.{Value}
 use Rattle.reading.specs.declared.value.Value.the-variants.{Known, Refused}
 use Rattle.reading.specs.Value.{withValue, within}
@@ -40,13 +41,15 @@ module _ (sum x : ℤ) (hs : natAbs sum ≤ limit) (hx : natAbs x ≤ 2 ^ 24) wh
   turn-small : natAbs (rounded (sum *ℤ x) (2 ^ 24)) ≤ limit
   turn-small = rounded-high (2 ^ 24) (lit< tt) (sum *ℤ x) limit product-small
 
-  pub step-sum-fits : (c : ℤ) → natAbs c ≤ 2 * limit → SFits w64 (c +ℤ rounded (sum *ℤ x) (2 ^ 24))
-  step-sum-fits c h = fits-64 (omega (arith, turn-small, magnitude-sum c (rounded (sum *ℤ x) (2 ^ 24))))
-
-  -- a coefficient this large cannot come back within the limit
-  pub step-far : (kind : ℕ) (c : ℤ) → 2 * limit < natAbs c → Refused (refusal 25 kind) ≡ stepOf kind x c sum
+  -- where the sum does not fit, it and what is left of it are beyond the limit
+  pub step-wrapped : (kind : ℕ) (c : ℤ) → SFits w64 c → within limit 25 kind (wrapped (c +ℤ rounded (sum *ℤ x) (2 ^ 24))) ≡ stepOf kind x c sum
   unfolding stepOf
-  step-far kind c h = within-beyond limit 25 kind _ (omega (arith, turn-small, magnitude-sum-low c (rounded (sum *ℤ x) (2 ^ 24))))
+  step-wrapped kind c f =
+      let turn : ℤ = rounded (sum *ℤ x) (2 ^ 24) in
+      wrapped-or-far c turn f (omega (arith, turn-small))
+      (λ (e : wrapped (c +ℤ turn) ≡ c +ℤ turn). rw e)
+      (λ (far : 2 ^ 62 ≤ natAbs (c +ℤ turn)) (left : 2 ^ 62 ≤ natAbs (wrapped (c +ℤ turn))).
+      sym (within-beyond limit 25 kind (wrapped (c +ℤ turn)) (omega arith)) ∙ within-beyond limit 25 kind (c +ℤ turn) (omega arith))
 
 pub step-bound : (kind : ℕ) (x c sum next : ℤ) → stepOf kind x c sum ≡ Known next → natAbs next ≤ limit
 unfolding stepOf

@@ -1,12 +1,12 @@
 -- What a known value says of the checks before it, both ways on from a value, and both answers of `within`.
-use mathlib.Core.Path.{_≡_, refl}
-use mathlib.Core.Bool.{Bool, true, false}
+use mathlib.Core.Path.{_≡_, refl, sym, _∙_}
+use mathlib.Core.Bool.{Bool, true, false, not}
 use Prim.Native.Nat.{ℕ, _≤_, _<_}
 use native.Mathlib.Omega.{arith}
-use borrow.Author.Tests.{le-leb, lt-leb, leb-true}
+use borrow.Author.Tests.{le-leb, lt-leb, leb-true, leb-false}
 use lib.Dec.{leb}
 use lib.IntN.{ℤ, natAbs}
-use Rattle.laws.specs.Cases.{decide}
+use Rattle.laws.specs.Cases.{decide, never}
 use Rattle.refusals.specs.declared.Refusal.{Refusal}
 use Rattle.refusals.specs.declared.Verdict.{Verdict}
 use Rattle.refusals.specs.declared.Verdict.the-variants.{Accepted, Refused as NotAccepted}
@@ -33,13 +33,20 @@ module _ {v w : Value} (next : ℤ → Value) (is : v ≡ w) where
   value-refused e = rw (← is, e)
 
 module _ (most number detail : ℕ) (z : ℤ) where
-  pub within-known : natAbs z ≤ most → Known z ≡ within most number detail z
+  within-known : natAbs z ≤ most → Known z ≡ within most number detail z
   unfolding within
   within-known h = rw (le-leb (natAbs z) most h)
 
   pub within-beyond : most < natAbs z → Refused (refusal number detail) ≡ within most number detail z
   unfolding within
   within-beyond h = rw (lt-leb (natAbs z) most h)
+
+  -- by the test of the code
+  pub within-tested : (far : Bool) → far ≡ not (leb (natAbs z) most) → (far ≡ true → Refused (refusal number detail) ≡ within most number detail z) × (far ≡ false → Known z ≡ within most number detail z)
+  within-tested far e =
+      decide (leb (natAbs z) most)
+      (λ (q : leb (natAbs z) most ≡ true). ((λ (t : far ≡ true). never (sym (rw q at e) ∙ t)), (λ (t : far ≡ false). within-known (leb-true (natAbs z) most q))))
+      (λ (q : leb (natAbs z) most ≡ false). ((λ (t : far ≡ true). within-beyond (leb-false (natAbs z) most q)), (λ (t : far ≡ false). never (sym t ∙ rw q at e))))
 
   pub within-says : (y : ℤ) → within most number detail z ≡ Known y → (z ≡ y) × (natAbs y ≤ most)
   unfolding within

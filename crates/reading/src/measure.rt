@@ -8,10 +8,10 @@ use crate::shown::mark;
 use crate::shown::show;
 use crate::value::Value;
 use bodies::Identity;
-use sets::Set;
 ghost use mathlib.Core.Path.{_≡_};
 ghost use Prim.Native.Nat.{_≤_, _^_};
 ghost use lib.IntN.{natAbs};
+ghost use Rattle.sets.specs.Set.{setOf, gridOf};
 ghost use Rattle.reading.specs.Measured.{fromPressure, fromFrequencies, fromPressureFrequency, measuredOf};
 
 fn from_pressure(
@@ -19,14 +19,13 @@ fn from_pressure(
     fp: i64,
     ft: i64,
     identity: Identity,
-    tset: Set,
-    tgrid: [[i64; 5]; 5],
+    temperature_set: &[u8],
     trimming: Trimming,
 ) -> Answer
     requires { ⌜ (natAbs pressure ≤ 2 ^ 31) × (natAbs fp ≤ 6553600000) × (natAbs ft ≤ 6553600000) ⌝ }
-    ensures { λ r. ⌜ r ≡ fromPressure pressure fp ft identity tset tgrid trimming ⌝ }
+    ensures { λ r. ⌜ r ≡ fromPressure pressure fp ft identity (setOf (now («temperature_set» .entry))) (gridOf (now («temperature_set» .entry))) trimming ⌝ }
 {
-    match set_result(3, 3, tset, tgrid, fp, ft) {
+    match set_result(3, 3, temperature_set, fp, ft) {
         Value::Known(temperature) => {
             let outside = mark(identity, pressure, temperature);
             show(trimming, pressure, temperature, outside)
@@ -39,17 +38,22 @@ fn from_frequencies(
     fp: i64,
     ft: i64,
     identity: Identity,
-    pset: Set,
-    pgrid: [[i64; 5]; 5],
-    tset: Set,
-    tgrid: [[i64; 5]; 5],
+    pressure_set: &[u8],
+    temperature_set: &[u8],
     trimming: Trimming,
 ) -> Answer
     requires { ⌜ (natAbs fp ≤ 6553600000) × (natAbs ft ≤ 6553600000) ⌝ }
-    ensures { λ r. ⌜ r ≡ fromFrequencies fp ft identity pset pgrid tset tgrid trimming ⌝ }
+    ensures { λ r. ⌜ r ≡ fromFrequencies fp ft identity (setOf (now («pressure_set» .entry))) (gridOf (now («pressure_set» .entry))) (setOf (now («temperature_set» .entry))) (gridOf (now («temperature_set» .entry))) trimming ⌝ }
 {
-    match set_result(2, 1, pset, pgrid, fp, ft) {
-        Value::Known(pressure) => from_pressure(pressure, fp, ft, identity, tset, tgrid, trimming),
+    match set_result(2, 1, pressure_set, fp, ft) {
+        Value::Known(pressure) => from_pressure(
+            pressure,
+            fp,
+            ft,
+            identity,
+            temperature_set,
+            trimming,
+        ),
         Value::Refused(refusal) => Answer::Refused(refusal),
     }
 }
@@ -58,34 +62,37 @@ fn from_pressure_frequency(
     fp: i64,
     temperature: Channel,
     identity: Identity,
-    pset: Set,
-    pgrid: [[i64; 5]; 5],
-    tset: Set,
-    tgrid: [[i64; 5]; 5],
+    pressure_set: &[u8],
+    temperature_set: &[u8],
     trimming: Trimming,
 ) -> Answer
     requires { ⌜ natAbs fp ≤ 6553600000 ⌝ }
-    ensures { λ r. ⌜ r ≡ fromPressureFrequency fp temperature identity pset pgrid tset tgrid trimming ⌝ }
+    ensures { λ r. ⌜ r ≡ fromPressureFrequency fp temperature identity (setOf (now («pressure_set» .entry))) (gridOf (now («pressure_set» .entry))) (setOf (now («temperature_set» .entry))) (gridOf (now («temperature_set» .entry))) trimming ⌝ }
 {
     let sensor = temperature.sensor;
     let reference = temperature.reference;
     match frequency(2, sensor, reference) {
-        Value::Known(ft) => from_frequencies(fp, ft, identity, pset, pgrid, tset, tgrid, trimming),
+        Value::Known(ft) => from_frequencies(
+            fp,
+            ft,
+            identity,
+            pressure_set,
+            temperature_set,
+            trimming,
+        ),
         Value::Refused(refusal) => Answer::Refused(refusal),
     }
 }
 
-// What the counts come to, by what the bodies say.
+// What the counts come to, by what the bodies say: of the sets, which are read when they are needed, the bodies themselves.
 pub fn measured(
     counts: Counts,
     identity: Identity,
-    pset: Set,
-    pgrid: [[i64; 5]; 5],
-    tset: Set,
-    tgrid: [[i64; 5]; 5],
+    pressure_set: &[u8],
+    temperature_set: &[u8],
     trimming: Trimming,
 ) -> Answer
-    ensures { λ r. ⌜ r ≡ measuredOf counts identity pset pgrid tset tgrid trimming ⌝ }
+    ensures { λ r. ⌜ r ≡ measuredOf counts identity (setOf (now («pressure_set» .entry))) (gridOf (now («pressure_set» .entry))) (setOf (now («temperature_set» .entry))) (gridOf (now («temperature_set» .entry))) trimming ⌝ }
 {
     let pressure = counts.pressure;
     let temperature = counts.temperature;
@@ -96,10 +103,8 @@ pub fn measured(
             fp,
             temperature,
             identity,
-            pset,
-            pgrid,
-            tset,
-            tgrid,
+            pressure_set,
+            temperature_set,
             trimming,
         ),
         Value::Refused(refusal) => Answer::Refused(refusal),

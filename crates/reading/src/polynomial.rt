@@ -1,14 +1,13 @@
 use crate::frequency::prescaled;
 use crate::value::Value;
 use crate::value::limited;
-use crate::value::refused;
 use sets::Prescale;
-use sets::Set;
 ghost use mathlib.Core.Path.{_≡_};
 ghost use mathlib.Core.Bool.{true};
 ghost use Prim.Native.Nat.{_≤_, _^_};
 ghost use lib.IntN.{pos, natAbs};
 ghost use lib.ListN.{replicate};
+ghost use Rattle.sets.specs.Set.{setOf, gridOf};
 ghost use Rattle.reading.specs.Polynomial.{stepOf, rowSum, rowStep, gridSum, gridResult, resultFromXp, setResult};
 
 // One step of a running sum.
@@ -16,11 +15,9 @@ fn step(kind: u64, x: i64, coefficient: i64, sum: i64) -> Value
     requires { ⌜ (natAbs x ≤ 2 ^ 24) × (natAbs sum ≤ 500000000000) ⌝ }
     ensures { λ r. ⌜ r ≡ stepOf kind x coefficient sum ⌝ }
 {
-    // a coefficient this large cannot come back within the limit
-    if 1000000000000 < whole::magnitude(coefficient) {
-        return refused(25, kind);
-    }
-    let next = coefficient + whole::rounding::rounded_over_2_24(sum * x);
+    let turn = whole::rounding::rounded_over_2_24(sum * x);
+    // where the sum does not fit, what is left of it is beyond the limit too
+    let next = whole::wrapped_sum(coefficient, turn);
     limited(500000000000, 25, kind, next)
 }
 
@@ -122,22 +119,23 @@ fn result_from_xp(
     }
 }
 
-// A set's result from its own prescale of both frequencies.
-pub fn set_result(
-    kind: u64,
-    first: u64,
-    set: Set,
-    grid: [[i64; 5]; 5],
-    pressure: i64,
-    temperature: i64,
-) -> Value
+// The result of the set that a body holds, from its own prescale of both frequencies.
+pub fn set_result(kind: u64, first: u64, body: &[u8], pressure: i64, temperature: i64) -> Value
     requires { ⌜ (natAbs pressure ≤ 6553600000) × (natAbs temperature ≤ 6553600000) × (first ≤ 3) ⌝ }
-    ensures { λ r. ⌜ r ≡ setResult kind first set grid pressure temperature ⌝ }
+    ensures { λ r. ⌜ r ≡ setResult kind first (setOf (now (body .entry))) (gridOf (now (body .entry))) pressure temperature ⌝ }
 {
+    let set = sets::read_set(body);
     let by_pressure = set.pressure;
     let by_temperature = set.temperature;
     match prescaled(first, by_pressure, pressure) {
-        Value::Known(xp) => result_from_xp(kind, first + 1, xp, by_temperature, temperature, grid),
+        Value::Known(xp) => result_from_xp(
+            kind,
+            first + 1,
+            xp,
+            by_temperature,
+            temperature,
+            sets::read_grid(body),
+        ),
         Value::Refused(refusal) => Value::Refused(refusal),
     }
 }

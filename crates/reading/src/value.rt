@@ -18,7 +18,7 @@ pub fn refused(number: u32, detail: u64) -> Value
 pub fn limited(most: u64, number: u32, detail: u64, z: i64) -> Value
     ensures { λ r. ⌜ r ≡ within most number detail z ⌝ }
 {
-    if most < whole::magnitude(z) {
+    if whole::beyond(z, most) {
         return refused(number, detail);
     }
     Value::Known(z)

@@ -7,7 +7,8 @@ use lib.IntN.{ℤ, pos, negsuc, negℤ, natAbs, _+ℤ_, _-ℤ_}
 use lib.Signed.{ltZ}
 use mir.Syntax.{w64}
 use mir.Val.{SFits}
-use Rattle.laws.specs.Linear.{over, under, sum-parts, negated-over, negated-under, less-of-parts, not-less-of-parts, parts-of-less, parts-of-not-less, same-parts}
+use Rattle.laws.specs.Cases.{split}
+use Rattle.laws.specs.Linear.{over, under, magnitude-parts, sum-parts, negated-over, negated-under, less-of-parts, not-less-of-parts, parts-of-less, parts-of-not-less, same-parts}
 use Rattle.laws.specs.Pattern.{parts-that-fit, sum-fits-64}
 use Rattle.whole.specs.Wrapped.{wrapped}
 
@@ -25,6 +26,24 @@ unfolding wrapped
 wrapped-fitting z f =
     let p = parts-that-fit z f in
     rw (not-less-of-parts (pos (2 ^ 63 - 1)) z (omega arith), not-less-of-parts z (negℤ (pos (2 ^ 63))) (omega arith))
+
+-- a number that is not too far from 0 added to one that fits: the sum, or both it and what is left of it are far
+pub wrapped-or-far {ℓ} : {X : Type ℓ} (a b : ℤ) → SFits w64 a → natAbs b ≤ 2 ^ 62 → (wrapped (a +ℤ b) ≡ a +ℤ b → X) → (2 ^ 62 ≤ natAbs (a +ℤ b) → 2 ^ 62 ≤ natAbs (wrapped (a +ℤ b)) → X) → X
+wrapped-or-far a b f g same far =
+    let p = parts-that-fit a f in
+    let q = magnitude-parts b in
+    let s = sum-parts a b in
+    let z : ℤ = a +ℤ b in
+    let m = magnitude-parts z in
+    split (under z + 2 ^ 63) (over z)
+    (λ (h : under z + 2 ^ 63 ≤ over z).
+    far (omega arith)
+    (rw (wrapped-above z h) (omega (arith, magnitude-parts (z -ℤ pos (2 ^ 64)), sum-parts z (negℤ (pos (2 ^ 64)))))))
+    (λ (h : over z < under z + 2 ^ 63).
+    split (under z) (over z + 2 ^ 63)
+    (λ (k : under z ≤ over z + 2 ^ 63). same (wrapped-fitting z (sum-fits-64 a b (omega arith) (omega arith))))
+    (λ (k : over z + 2 ^ 63 < under z).
+    far (omega arith) (rw (wrapped-below z k) (omega (arith, magnitude-parts (z +ℤ pos (2 ^ 64)), sum-parts z (pos (2 ^ 64)))))))
 
 -- ---- how the code comes to it: by the sign of b, and whether the sum has room
 

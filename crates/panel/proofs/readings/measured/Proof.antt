@@ -16,18 +16,6 @@ body-requires-2 c κs = search (needs, first-line)
 body-requires-3 : tie.Need-body-requires-3
 body-requires-3 c κs = search (needs, first-line)
 
-read-set-requires : tie.Need-read-set-requires
-read-set-requires c κs = search needs
-
-read-grid-requires : tie.Need-read-grid-requires
-read-grid-requires c κs = search needs
-
-read-set-requires-2 : tie.Need-read-set-requires-2
-read-set-requires-2 c κs = search needs
-
-read-grid-requires-2 : tie.Need-read-grid-requires-2
-read-grid-requires-2 c κs = search needs
-
 trimming-requires : tie.Need-trimming-requires
 trimming-requires c κs = search needs
 
@@ -45,10 +33,6 @@ measured-spec =
     read-identity-requires
     body-requires-2
     body-requires-3
-    read-set-requires
-    read-grid-requires
-    read-set-requires-2
-    read-grid-requires-2
     trimming-requires
     measured-requires
     returns)

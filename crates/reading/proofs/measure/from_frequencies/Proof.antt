@@ -16,7 +16,7 @@ enum-known-pressure c = search needs
 
 from-pressure-requires : tie.Need-from-pressure-requires
 from-pressure-requires c κs =
-    let b = c .before .before .before .before in
+    let b = c .before .before .before .before .before .before in
     let g = c .before .pressure .given in
     (rw (read-back w64 (g .0 .0) (c .known-told .given .0 .1)) (set-bound _ _ _ _ _ _ (g .0 .0) (sym (c .before .before .before .set-result .ensures) ∙ g .1)), rw (toZ-ofZ (b .fits .fp)) (b .pre .0), rw (toZ-ofZ (b .fits .ft)) (b .pre .1))
 
@@ -26,7 +26,7 @@ enum-known-refusal c = search needs
 returns : tie.Need-returns
 unfolding fromFrequencies
 returns c =
-    let b = c .before .before .before .before .before in
+    let b = c .before .before .before .before .before .before .before in
     let g = c .before .before .pressure .given in
     let fp = toZ-ofZ (b .fits .fp) in
     let ft = toZ-ofZ (b .fits .ft) in
@@ -36,7 +36,7 @@ returns c =
 returns-2 : tie.Need-returns-2
 unfolding fromFrequencies
 returns-2 c =
-    let b = c .before .before .before .before in
+    let b = c .before .before .before .before .before .before in
     let set = rw (toZ-ofZ (b .fits .fp), toZ-ofZ (b .fits .ft)) at (c .before .before .before .set-result .ensures) in
     answer-refused _ set (c .before .refusal .given .1)
 

@@ -26,7 +26,7 @@ enum-known-refusal c = search needs
 returns : tie.Need-returns
 unfolding fromPressure
 returns c =
-    let b = c .before .before .before .before .before .before in
+    let b = c .before .before .before .before .before .before .before in
     let g = c .before .before .before .temperature .given in
     let p = toZ-ofZ (b .fits .pressure) in
     let t = read-back w64 (g .0 .0) (c .before .before .known-told .given .0 .1) in
@@ -36,7 +36,7 @@ returns c =
 returns-2 : tie.Need-returns-2
 unfolding fromPressure
 returns-2 c =
-    let b = c .before .before .before .before in
+    let b = c .before .before .before .before .before in
     let set = rw (toZ-ofZ (b .fits .fp), toZ-ofZ (b .fits .ft)) at (c .before .before .before .set-result .ensures) in
     answer-refused _ set (c .before .refusal .given .1)
 

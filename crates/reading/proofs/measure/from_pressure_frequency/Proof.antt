@@ -17,7 +17,7 @@ enum-known-ft c = search needs
 
 from-frequencies-requires : tie.Need-from-frequencies-requires
 from-frequencies-requires c κs =
-    let b = c .before .before .before .before .before .before in
+    let b = c .before .before .before .before .before .before .before .before in
     let g = c .before .ft .given in
     (rw (toZ-ofZ (b .fits .fp)) (b .pre), rw (read-back w64 (g .0 .0) (c .known-told .given .0 .1)) (frequency-bound _ _ _ (g .0 .0) (sym (c .before .before .before .frequency .ensures) ∙ g .1)))
 
@@ -27,7 +27,7 @@ enum-known-refusal c = search needs
 returns : tie.Need-returns
 unfolding fromPressureFrequency
 returns c =
-    let b = c .before .before .before .before .before .before .before in
+    let b = c .before .before .before .before .before .before .before .before .before in
     let g = c .before .before .ft .given in
     (rw (toZ-ofZ (b .fits .fp), read-back w64 (g .0 .0) (c .before .known-told .given .0 .1)) at (c .from-frequencies .ensures)) ∙ answer-known _ (c .before .before .before .before .frequency .ensures) (g .1)
 
