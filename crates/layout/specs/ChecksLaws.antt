@@ -3,7 +3,7 @@ use mathlib.Core.Bool.{Bool, true, false, not, _&&_}
 use mathlib.Core.List.{List}
 use mathlib.Core.Path.{_≡_, sym, _∙_}
 use Prim.Native.Nat.{ℕ, _+_, _-_, _*_, _%_, _≤_, _<_}
-use native.Mathlib.Nat.{sub-zero, zero-add}
+use native.Mathlib.Nat.{sub-zero, add-zero}
 use native.Mathlib.Omega.{arith}
 use borrow.Author.Tests.{lt-ltb, eq-eqb, ne-eqb, not-true, not-false}
 use lib.Dec.{leb, eqb}
@@ -17,9 +17,9 @@ use Rattle.refusals.specs.declared.Verdict.{Verdict}
 use Rattle.refusals.specs.declared.Verdict.the-variants.{Accepted, Refused}
 use Rattle.refusals.specs.Refusals.{refusal, ask}
 use Rattle.refusals.specs.VerdictLaws.{ask-passes, ask-refuses, ask-unpassed}
-use Rattle.image.specs.Layout.{lineCount, linePlace, offsetAt, lengthAt, sumAt, startVerdict, countVerdict, lineRight, linesVerdict, sumsVerdict, layoutVerdict}
+use Rattle.image.specs.Layout.{lineCount, linePlace, kindAt, offsetAt, lengthAt, sumAt, startVerdict, countVerdict, lineRight, linesVerdict, sumsVerdict, layoutVerdict}
 use Rattle.laws.specs.Loops.{one-left, none-left}
-use Rattle.image.specs.LayoutLaws.{Started, start-passes, start-passed, Counted, count-passes, count-passed, Right, passed-right, bodies-within}
+use Rattle.image.specs.LayoutLaws.{Started, start-passes, start-passed, Counted, count-passes, count-passed, Right, passed-right, LinePassed, line-passed, bodies-within}
 use Rattle.layout.specs.Checks.{allLines, Placed, sumRight, allSums}
 
 -- ---- 5
@@ -123,33 +123,50 @@ module _ (image : List ℕ) (count i previous offset : ℕ) (j : Judging image c
 
 -- ---- 8
 
-pub body-there : (image : List ℕ) (count i : ℕ) → Placed image → count ≡ lineCount image → i < count → offsetAt image i + lengthAt image i ≤ length image
-body-there image count i p c h = p .within i (omega arith)
+pub sum-decides : (image body : List ℕ) (i offset size sum stated : ℕ) → body ≡ take (offset + size - offset) (drop offset image)
+    → sum ≡ total body % 65536 → stated ≡ sumAt image i → eqb sum stated ≡ sumRight image i offset size
+sum-decides image body i offset size sum stated b s t = let long : offset + size - offset ≡ size = omega arith in rw (s, t, b, long)
 
-pub sum-decides : (image body : List ℕ) (i start size sum stated : ℕ) → body ≡ take (start + size - start) (drop start image)
-    → start ≡ offsetAt image i → size ≡ lengthAt image i → sum ≡ total body % 65536 → stated ≡ sumAt image i → eqb sum stated ≡ sumRight image i
-sum-decides image body i start size sum stated b f l s t = let long : start + size - start ≡ size = omega arith in rw (s, t, b, long, f, l)
+-- i bodies have the right sum; the lines left are right, with the next body at offset
+pub record Summed (image : List ℕ) (count i offset : ℕ) : Type 0 where
+  pub rest : sumsVerdict image (count - i) i ≡ allSums image
+  pub previous : ℕ
+  pub right : linesVerdict image (count - i) i previous offset ≡ Accepted
+  pub within : offset ≤ length image
 
--- i bodies have the right sum
-abbrev pub Summed : List ℕ → (count i : ℕ) → Type 0
-Summed image count i = sumsVerdict image (count - i) i ≡ allSums image
+pub summed-first : (image : List ℕ) (count : ℕ) → Placed image → count ≡ lineCount image → Summed image count 0 (2 + 8 * count)
+summed-first image count p c =
+    record { rest = rw (sub-zero count, c); previous = 0; right = rw (sub-zero count, c) (p .right); within = omega (arith, p .room) }
 
-pub summed-first : (image : List ℕ) (count : ℕ) → count ≡ lineCount image → Summed image count 0
-summed-first image count c = rw (sub-zero count, c)
+module _ (image : List ℕ) (count i offset : ℕ) (j : Summed image count i offset) where
+  module _ (more : i < count) (size : ℕ) (l : size ≡ lengthAt image i) where
+    line : LinePassed image (count - (i + 1)) i (j .previous) offset
+    line = line-passed image (count - (i + 1)) i (j .previous) offset (rw (one-left count i more) at (j .right))
 
-module _ (image : List ℕ) (count i : ℕ) (j : Summed image count i) where
-  module _ (right : Bool) (t : right ≡ sumRight image i) (more : i < count) where
-    pub sums-stop : not right ≡ true → (r : Verdict) → r ≡ Refused (refusal 8 i) → r ≡ allSums image
-    unfolding sumsVerdict
-    sums-stop f r e = e ∙ rw (one-left count i more, ← t, not-true right f) at j
+    starts : offsetAt image i ≡ offset
+    starts = line .right .starts
 
-    pub sums-more : not right ≡ false → Summed image count (i + 1)
-    unfolding sumsVerdict
-    sums-more f = rw (one-left count i more, ← t, not-false right f) at j
+    pub body-there : offset + size ≤ length image
+    body-there = rw (l, ← starts, ← add-zero i) (bodies-within image (count - i) i (j .previous) offset (j .right) 0 (omega arith))
+
+    module _ (right : Bool) (t : right ≡ sumRight image i offset size) where
+      pub sums-stop : not right ≡ true → (r : Verdict) → r ≡ Refused (refusal 8 i) → r ≡ allSums image
+      unfolding sumsVerdict
+      sums-stop f r e = e ∙ rw (one-left count i more, starts, ← l, ← t, not-true right f) at (j .rest)
+
+      pub sums-more : not right ≡ false → Summed image count (i + 1) (offset + size)
+      unfolding sumsVerdict
+      sums-more f =
+          record {
+            rest = rw (one-left count i more, starts, ← l, ← t, not-false right f) at (j .rest);
+            previous = kindAt image i;
+            right = rw l (line .others);
+            within = body-there;
+          }
 
   pub sums-end : count ≤ i → Accepted ≡ allSums image
   unfolding sumsVerdict
-  sums-end end = rw (none-left count i end) at j
+  sums-end end = rw (none-left count i end) at (j .rest)
 
 -- ---- all four, in order
 
@@ -159,12 +176,7 @@ module _ (image : List ℕ) (count : Verdict) (c : count ≡ countVerdict image)
   roomed = count-passed image (sym c ∙ c-passed) .room
 
   pub placed : (lines : Verdict) → lines ≡ allLines image → lines ≡ Accepted → Placed image
-  placed lines l l-passed =
-      record {
-        room = roomed;
-        within = λ (i : ℕ) (h : i < lineCount image).
-            rw (zero-add i) at (bodies-within image (lineCount image) 0 0 (linePlace (lineCount image)) (sym l ∙ l-passed) i h);
-      }
+  placed lines l l-passed = record { room = roomed; right = sym l ∙ l-passed }
 
 module _ (image : List ℕ) (start : Verdict) (s : start ≡ startVerdict image) where
   pub start-decides : (q : Refusal) → start ≡ Refused q → start ≡ layoutVerdict image

@@ -2,7 +2,7 @@ ghost use mathlib.Core.Path.{_≡_};
 ghost use Prim.Native.Nat.{_+_, _≤_};
 ghost use lib.ListN.{length};
 ghost use Rattle.numbers.specs.Fields.{numberAt};
-ghost use Rattle.image.specs.Layout.{lineCount, linePlace, offsetAt, lengthAt, startVerdict, countVerdict, lineRight};
+ghost use Rattle.image.specs.Layout.{lineCount, linePlace, startVerdict, countVerdict, lineRight};
 ghost use Rattle.layout.specs.Checks.{allLines, Placed, sumRight, allSums};
 use numbers::fields;
 use numbers::slices;
@@ -88,29 +88,31 @@ pub fn lines(image: &[u8]) -> Verdict
     Verdict::Accepted
 }
 
-// The body goes to its sum as the part of the image where it stands.
-fn sum_right(image: &[u8], i: usize) -> bool
-    requires { ⌜ (linePlace (i + 1) ≤ length (now image)) × (offsetAt (now image) i + lengthAt (now image) i ≤ length (now image)) ⌝ }
-    ensures { λ r. ⌜ r ≡ sumRight (now (image .entry)) i ⌝ }
+// A body goes to its sum as the part of the image where it stands.
+fn sum_right(image: &[u8], i: usize, offset: usize, size: usize) -> bool
+    requires { ⌜ (linePlace (i + 1) ≤ length (now image)) × (offset + size ≤ length (now image)) ⌝ }
+    ensures { λ r. ⌜ r ≡ sumRight (now (image .entry)) i offset size ⌝ }
 {
     let place = 2 + 8 * i;
-    let offset = two_bytes(image, place + 2) as usize;
-    let length = two_bytes(image, place + 4) as usize;
-    let body = &image[offset..offset + length];
+    let body = &image[offset..offset + size];
     slices::byte_sum(body) == two_bytes(image, place + 6)
 }
 
-// Refusal 8.
+// Refusal 8. Where each body starts is not read again: the lines are right, so it is where the one before ends.
 pub fn sums(image: &[u8]) -> Verdict
     requires { ⌜ Placed (now image) ⌝ }
     ensures { λ r. ⌜ r ≡ allSums (now (image .entry)) ⌝ }
 {
     let count = fields::number1(image, 1) as usize;
     let mut i = 0;
+    let mut offset = 2 + 8 * count;
     while i < count {
-        if !sum_right(image, i) {
+        let place = 2 + 8 * i;
+        let size = two_bytes(image, place + 4) as usize;
+        if !sum_right(image, i, offset, size) {
             return refused(8, i as u64);
         }
+        offset += size;
         i += 1;
     }
     Verdict::Accepted

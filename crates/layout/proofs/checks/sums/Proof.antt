@@ -7,10 +7,10 @@ use Rattle.layout.proofs.checks.sums.Tie as tie
 ruleset laws = (needs, summed-first, body-there, sums-stop, sums-more, sums-end)
 
 abbrev Inv-loop : tie.InvT-loop
-Inv-loop image count i₀ i = Summed image count i
+Inv-loop image count i₀ offset₀ i offset = Summed image count i offset
 
 abbrev μ-loop : tie.MeasureT-loop
-μ-loop image count i₀ i = count - i
+μ-loop image count i₀ offset₀ i offset = count - i
 
 number1-requires : tie.Need-number1-requires Inv-loop μ-loop
 number1-requires c κs = search laws
@@ -18,8 +18,29 @@ number1-requires c κs = search laws
 cast-count : tie.Need-cast-count Inv-loop μ-loop
 cast-count c = search laws
 
+mul-offset : tie.Need-mul-offset Inv-loop μ-loop
+mul-offset c = search laws
+
+add-offset : tie.Need-add-offset Inv-loop μ-loop
+add-offset c = search laws
+
 loop-holds : tie.Need-loop-holds Inv-loop μ-loop
 loop-holds c = search laws
+
+mul-place : tie.Need-mul-place Inv-loop μ-loop
+mul-place c = search laws
+
+add-place : tie.Need-add-place Inv-loop μ-loop
+add-place c = search laws
+
+add-two-bytes : tie.Need-add-two-bytes Inv-loop μ-loop
+add-two-bytes c = search laws
+
+two-bytes-requires : tie.Need-two-bytes-requires Inv-loop μ-loop
+two-bytes-requires c κs = search laws
+
+cast-size : tie.Need-cast-size Inv-loop μ-loop
+cast-size c = search laws
 
 sum-right-requires : tie.Need-sum-right-requires Inv-loop μ-loop
 sum-right-requires c κs = search laws
@@ -29,6 +50,9 @@ refused-requires c κs = search laws
 
 returns : tie.Need-returns Inv-loop μ-loop
 returns c = search laws
+
+add-offset-2 : tie.Need-add-offset-2 Inv-loop μ-loop
+add-offset-2 c = search laws
 
 add-i : tie.Need-add-i Inv-loop μ-loop
 add-i c = search laws
@@ -50,10 +74,18 @@ sums-spec =
     μ-loop
     number1-requires
     cast-count
+    mul-offset
+    add-offset
     loop-holds
+    mul-place
+    add-place
+    add-two-bytes
+    two-bytes-requires
+    cast-size
     sum-right-requires
     refused-requires
     returns
+    add-offset-2
     add-i
     loop-less
     loop-again
