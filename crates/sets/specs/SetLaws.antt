@@ -1,18 +1,20 @@
 -- Laws of a set: what is read, its prescales, its length, and what the loop over its coefficients keeps.
 use mathlib.Core.Path.{_≡_, sym, ap, _∙_}
-use mathlib.Core.Bool.{Bool, true, false, not}
+use mathlib.Core.Bool.{Bool, true, false, not, _&&_}
 use mathlib.Core.List.{List, _∷_}
 use Prim.Native.Nat.{ℕ, suc, _+_, _-_, _*_, _^_, _≤_, _<_}
 use native.Mathlib.Nat.{mul-le-mul, sub-zero}
 use native.Mathlib.Omega.{arith}
+use borrow.Author.Tests.{not-true, not-false}
 use lib.Dec.{leb, eqb}
 use lib.IntN.{natAbs}
 use lib.ListN.{length}
+use Rattle.laws.specs.Cases.{decide, both-left, both-right}
 use Rattle.numbers.specs.Fields.{numberAt}
 use Rattle.refusals.specs.declared.Verdict.{Verdict}
 use Rattle.refusals.specs.declared.Verdict.the-variants.{Accepted, Refused}
 use Rattle.refusals.specs.Refusals.{refusal, fieldsVerdict}
-use Rattle.refusals.specs.FieldsVerdictLaws.{Wrong, Judged, Passed, stop-at-wrong, all-right, passed-none, passed-right, judged-left}
+use Rattle.refusals.specs.FieldsVerdictLaws.{Wrong, Judged, Passed, past-right, stop-at-wrong, all-right, passed-none, passed-right, judged-left}
 use Rattle.sets.specs.declared.Set.{Set}
 use Rattle.refusals.specs.TestsLaws.{equal, unequal}
 use Rattle.sets.specs.Set.{setOf, pressureOrder, temperatureOrder, coefficientCount, coefficientAt, multiplierRight, offsetRight, coefficientFields}
@@ -25,14 +27,33 @@ pub set-read : (body : List ℕ) {np mp fp nt mt ft : ℕ}
 unfolding setOf
 set-read body a b c d e f = rw (a, b, c, d, e, f)
 
+-- ---- two fields of one test, as multiplier and offset of a prescale
+
+-- the first decides where it is wrong, else the second
+module _ (b one two : Bool) (e : b ≡ not one) where
+  pub first-decides : b ≡ true → b ≡ not (one && two)
+  first-decides h = h ∙ rw (not-true one (sym e ∙ h))
+
+  pub second-decides : (d : Bool) → b ≡ false → d ≡ not two → d ≡ not (one && two)
+  second-decides d h f = rw (not-false one (sym e ∙ h)) f
+
+module _ {number : ℕ} {one two : Bool} {fields : List Bool} {verdict : Verdict} where
+  pub past-both : Wrong (one && two) false → Judged number fields verdict → Judged number (one ∷ two ∷ fields) verdict
+  past-both w h =
+      let e : (one && two) ≡ true = not-false (one && two) (sym (w .tells)) in
+      past-right (record { tells = rw (both-left one two e) }) (past-right (record { tells = rw (both-right one two e) }) h)
+
+  pub stop-at-either : Wrong (one && two) true → verdict ≡ Refused (refusal number 0) → Judged number (one ∷ two ∷ fields) verdict
+  stop-at-either w h =
+      decide one
+      (λ e. past-right (record { tells = rw e }) (stop-at-wrong (record { tells = rw e at (w .tells) }) h))
+      (λ e. stop-at-wrong (record { tells = rw e }) h)
+
 -- ---- what the code's tests tell; x and y are the orders that it read
 
-module _ (b told : Bool) (x n m k : ℕ) where
-  pub multiplier-told : b ≡ not (multiplierRight x m) → b ≡ told → x ≡ n → m ≡ k → Wrong (multiplierRight n k) told
-  multiplier-told e h f g = record { tells = sym h ∙ rw (f, g) at e }
-
-  pub offset-told : b ≡ not (offsetRight x m) → b ≡ told → x ≡ n → m ≡ k → Wrong (offsetRight n k) told
-  offset-told e h f g = record { tells = sym h ∙ rw (f, g) at e }
+pub prescale-told : (b told : Bool) (x m f order multiplier offset : ℕ) → b ≡ not (multiplierRight x m && offsetRight x f) → b ≡ told
+    → x ≡ order → m ≡ multiplier → f ≡ offset → Wrong (multiplierRight order multiplier && offsetRight order offset) told
+prescale-told b told x m f order multiplier offset e h i j k = record { tells = sym h ∙ rw (i, j, k) at e }
 
 pub few : (x y : ℕ) → x ≤ 4 → y ≤ 4 → (x + 1) * (y + 1) ≤ 25
 few x y h k =

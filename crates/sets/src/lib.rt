@@ -8,7 +8,7 @@ use refusals::refused;
 use whole::beyond;
 use whole::outside;
 ghost use mathlib.Core.Path.{_≡_};
-ghost use mathlib.Core.Bool.{not};
+ghost use mathlib.Core.Bool.{not, _&&_};
 ghost use Prim.Native.Nat.{_+_, _*_, _≤_, _<_};
 ghost use lib.ListN.{length, drop};
 ghost use Rattle.numbers.specs.Fields.{signedAt};
@@ -83,16 +83,10 @@ fn prescales_verdict(
     requires { ⌜ Ordered (now body) pressure temperature count ⌝ }
     ensures { λ r. ⌜ r ≡ fieldsVerdict number (drop 5 (setFields (now (body .entry)))) ⌝ }
 {
-    if multiplier_wrong(pressure, number4(body, 4)) {
+    if prescale_wrong(pressure, number4(body, 4), number8(body, 8)) {
         return refused(number, 0);
     }
-    if offset_wrong(pressure, number8(body, 8)) {
-        return refused(number, 0);
-    }
-    if multiplier_wrong(temperature, number4(body, 16)) {
-        return refused(number, 0);
-    }
-    if offset_wrong(temperature, number8(body, 20)) {
+    if prescale_wrong(temperature, number4(body, 16), number8(body, 20)) {
         return refused(number, 0);
     }
     coefficients_verdict(body, count, number)
@@ -105,22 +99,13 @@ fn coefficient_count(pressure: u8, temperature: u8) -> usize
     (pressure as usize + 1) * (temperature as usize + 1)
 }
 
-fn multiplier_wrong(order: u8, multiplier: u32) -> bool
-    ensures { λ r. ⌜ r ≡ not (multiplierRight order multiplier) ⌝ }
+fn prescale_wrong(order: u8, multiplier: u32, offset: u64) -> bool
+    ensures { λ r. ⌜ r ≡ not (multiplierRight order multiplier && offsetRight order offset) ⌝ }
 {
     if order == 0 {
-        return multiplier != 0;
+        return multiplier != 0 || offset != 0;
     }
-    outside(1, multiplier as u64, 1073741824)
-}
-
-fn offset_wrong(order: u8, offset: u64) -> bool
-    ensures { λ r. ⌜ r ≡ not (offsetRight order offset) ⌝ }
-{
-    if order == 0 {
-        return offset != 0;
-    }
-    6553600000 < offset
+    outside(1, multiplier as u64, 1073741824) || 6553600000 < offset
 }
 
 fn coefficients_verdict(body: &[u8], count: usize, number: u32) -> Verdict
