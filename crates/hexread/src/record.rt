@@ -3,7 +3,7 @@ ghost use Prim.Native.Nat.{_+_, _*_, _≤_, max};
 ghost use lib.ListN.{length};
 ghost use Rattle.hextext.specs.Record.{typed};
 ghost use Rattle.hexread.specs.DigitsLaws.{Valued};
-ghost use Rattle.hexread.specs.PairsLaws.{Put, TookData};
+ghost use Rattle.hexread.specs.PairsLaws.{Summed, Put, TookData};
 ghost use Rattle.hexread.specs.RecordLaws.{Counted, Taken};
 use crate::digits::digit;
 use crate::digits::pair;
@@ -15,22 +15,28 @@ fn greater(one: u8, other: u8) -> u8
     if one < other { other } else { one }
 }
 
-// Writes the bytes that `count` pairs spell from the tenth character on into the image at `to`, all before it looks whether
-// a character was no digit, so that many go at once. Their sum modulo 256, or 256 where one was none.
-fn put_data(line: &[u8], count: usize, image: &mut [u8], to: usize) -> usize
-    requires { ⌜ (11 + count * 2 ≤ length (now line)) × (to + count ≤ length (now image)) ⌝ }
-    ensures { λ r. ⌜ Put (now (line .entry)) count (now (image .entry)) (now (image .exit)) to r ⌝ }
+fn greatest(one: u8, two: u8, three: u8) -> u8
+    ensures { λ r. ⌜ r ≡ max one (max two three) ⌝ }
+{
+    greater(one, greater(two, three))
+}
+
+// Writes the bytes that `count` pairs from character `from` on spell into the image at `to`, all before it looks whether a
+// character was no digit, so that many go at once. Their sum modulo 256, or 256 where one was none.
+fn put_pairs(line: &[u8], from: usize, count: usize, image: &mut [u8], to: usize) -> usize
+    requires { ⌜ (from + count * 2 ≤ length (now line)) × (to + count ≤ length (now image)) ⌝ }
+    ensures { λ r. ⌜ Put (now (line .entry)) from count (now (image .entry)) (now (image .exit)) to r ⌝ }
 {
     let mut sum: u8 = 0;
     let mut worst: u8 = 0;
     let mut i: usize = 0;
     while i < count {
-        let high = digit(line[9 + i * 2]);
-        let low = digit(line[10 + i * 2]);
+        let high = digit(line[from + i * 2]);
+        let low = digit(line[from + i * 2 + 1]);
         let byte = high % 16 * 16 + low % 16;
         image[to + i] = byte;
         sum = std::num::wrapping_add_u8(sum, byte);
-        worst = greater(worst, greater(high, low));
+        worst = greatest(worst, high, low);
         i += 1;
     }
     if 16 <= worst {
@@ -39,16 +45,63 @@ fn put_data(line: &[u8], count: usize, image: &mut [u8], to: usize) -> usize
     sum as usize
 }
 
-// The same where they have room; where not, the image stays.
-fn take_data(line: &[u8], count: usize, image: &mut [u8], to: usize, space: usize) -> usize
-    requires { ⌜ (11 + count * 2 ≤ length (now line)) × (count ≤ 255) × (to + space ≤ length (now image)) ⌝ }
+// The same of a record's data, which start at the tenth character, in blocks of 16: a count that the compiler knows, so that
+// it takes a block at once.
+fn put_data(line: &[u8], count: usize, image: &mut [u8], to: usize) -> usize
+    requires { ⌜ (9 + count * 2 ≤ length (now line)) × (to + count ≤ length (now image)) ⌝ }
+    ensures { λ r. ⌜ Put (now (line .entry)) 9 count (now (image .entry)) (now (image .exit)) to r ⌝ }
+{
+    let mut sum: usize = 0;
+    let mut i: usize = 0;
+    while 16 <= count - i {
+        let block = put_pairs(line, 9 + i * 2, 16, image, to + i);
+        if 256 <= block {
+            return 256;
+        }
+        sum = (sum + block) % 256;
+        i += 16;
+    }
+    let rest = put_pairs(line, 9 + i * 2, count - i, image, to + i);
+    if 256 <= rest {
+        return 256;
+    }
+    (sum + rest) % 256
+}
+
+// The same sum with nothing written. `put_data` with a spare image would do, but only what is called once is inlined whole.
+fn data_sum(values: &[usize; 256], line: &[u8], count: usize) -> usize
+    requires { ⌜ Valued (now values) × (9 + count * 2 ≤ length (now line)) ⌝ }
+    ensures { λ r. ⌜ Summed (now (line .entry)) 9 count r ⌝ }
+{
+    let mut sum: usize = 0;
+    let mut i: usize = 0;
+    while i < count {
+        let byte = pair(values, line, 9 + i * 2);
+        if 256 <= byte {
+            return 256;
+        }
+        sum = (sum + byte) % 256;
+        i += 1;
+    }
+    sum
+}
+
+// The sum of the data, and these in the image where they have room; where not, the image stays.
+fn take_data(
+    values: &[usize; 256],
+    line: &[u8],
+    count: usize,
+    image: &mut [u8],
+    to: usize,
+    space: usize,
+) -> usize
+    requires { ⌜ Valued (now values) × (9 + count * 2 ≤ length (now line)) × (to + space ≤ length (now image)) ⌝ }
     ensures { λ r. ⌜ TookData (now (line .entry)) count (now (image .entry)) (now (image .exit)) to space r ⌝ }
 {
     if count <= space {
         return put_data(line, count, image, to);
     }
-    let mut spare = [0u8; 255];
-    put_data(line, count, &mut spare, 0)
+    data_sum(values, line, count)
 }
 
 // Type, count, address and room of a record whose form and checksum are good.
@@ -104,7 +157,7 @@ pub fn take_record(
     if 256 <= kind {
         return Record::Fault(1);
     }
-    let data = take_data(line, count, image, at, room - at);
+    let data = take_data(values, line, count, image, at, room - at);
     if 256 <= data {
         return Record::Fault(1);
     }

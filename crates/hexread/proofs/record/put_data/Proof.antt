@@ -1,65 +1,43 @@
 use Prim.Native.Nat.{_-_}
 use borrow.Author.Needs.{needs}
-use Rattle.hexread.specs.PairsLaws.{Putting, putting-first, putting-more, putting-failed, putting-end}
+use Rattle.hexread.specs.PairsLaws.{Putting, putting-first, putting-block, putting-block-failed, putting-rest}
 use Rattle.hexread.proofs.record.put_data.Statement.{statement}
 use Rattle.hexread.proofs.record.put_data.Tie as tie
-use Rattle.std.proofs.num.wrapping_add_u8.Reads as wrapping-add-u8-reads
 
-ruleset laws = (needs, putting-first, putting-more, putting-failed, putting-end)
+ruleset laws = (needs, putting-first, putting-block, putting-block-failed, putting-rest)
 
 abbrev Inv-loop : tie.InvT-loop
-Inv-loop line count image₀ to sum₀ worst₀ i₀ image sum worst i = Putting line count image₀ image to sum worst i
+Inv-loop line count image₀ to sum₀ i₀ image sum i = Putting line 9 count image₀ image to sum 0 i
 
 abbrev μ-loop : tie.MeasureT-loop
-μ-loop line count image₀ to sum₀ worst₀ i₀ image sum worst i = count - i
+μ-loop line count image₀ to sum₀ i₀ image sum i = count - i
 
 loop-holds : tie.Need-loop-holds Inv-loop μ-loop
 loop-holds c = search laws
 
-mul-digit : tie.Need-mul-digit Inv-loop μ-loop
-mul-digit c = search laws
+sub-loop : tie.Need-sub-loop Inv-loop μ-loop
+sub-loop c = search laws
 
-add-digit : tie.Need-add-digit Inv-loop μ-loop
-add-digit c = search laws
+mul-put-pairs : tie.Need-mul-put-pairs Inv-loop μ-loop
+mul-put-pairs c = search laws
 
-shared-slice-read-digit : tie.Need-shared-slice-read-digit Inv-loop μ-loop
-shared-slice-read-digit c = search laws
+add-put-pairs : tie.Need-add-put-pairs Inv-loop μ-loop
+add-put-pairs c = search laws
 
-digit-requires : tie.Need-digit-requires Inv-loop μ-loop
-digit-requires c κs = search laws
+add-put-pairs-2 : tie.Need-add-put-pairs-2 Inv-loop μ-loop
+add-put-pairs-2 c = search laws
 
-mul-digit-2 : tie.Need-mul-digit-2 Inv-loop μ-loop
-mul-digit-2 c = search laws
+put-pairs-requires : tie.Need-put-pairs-requires Inv-loop μ-loop
+put-pairs-requires c κs = search laws
 
-add-digit-2 : tie.Need-add-digit-2 Inv-loop μ-loop
-add-digit-2 c = search laws
+same-length : tie.Need-same-length Inv-loop μ-loop
+same-length c = search laws
 
-shared-slice-read-digit-2 : tie.Need-shared-slice-read-digit-2 Inv-loop μ-loop
-shared-slice-read-digit-2 c = search laws
+returns : tie.Need-returns Inv-loop μ-loop
+returns c = search laws
 
-digit-requires-2 : tie.Need-digit-requires-2 Inv-loop μ-loop
-digit-requires-2 c κs = search laws
-
-mul-byte : tie.Need-mul-byte Inv-loop μ-loop
-mul-byte c = search laws
-
-add-byte : tie.Need-add-byte Inv-loop μ-loop
-add-byte c = search laws
-
-add-image : tie.Need-add-image Inv-loop μ-loop
-add-image c = search laws
-
-slice-write-image : tie.Need-slice-write-image Inv-loop μ-loop
-slice-write-image c = search laws
-
-wrapping-add-u8-requires : tie.Need-wrapping-add-u8-requires Inv-loop μ-loop
-wrapping-add-u8-requires c κs = search laws
-
-greater-requires : tie.Need-greater-requires Inv-loop μ-loop
-greater-requires c κs = search laws
-
-greater-requires-2 : tie.Need-greater-requires-2 Inv-loop μ-loop
-greater-requires-2 c κs = search laws
+add-sum : tie.Need-add-sum Inv-loop μ-loop
+add-sum c = search laws
 
 add-i : tie.Need-add-i Inv-loop μ-loop
 add-i c = search laws
@@ -70,20 +48,35 @@ loop-less c = search laws
 loop-again : tie.Need-loop-again Inv-loop μ-loop
 loop-again c = search laws
 
-same-length : tie.Need-same-length Inv-loop μ-loop
-same-length c = search laws
+mul-put-pairs-2 : tie.Need-mul-put-pairs-2 Inv-loop μ-loop
+mul-put-pairs-2 c = search laws
 
-returns : tie.Need-returns Inv-loop μ-loop
-returns c = search laws
+add-put-pairs-3 : tie.Need-add-put-pairs-3 Inv-loop μ-loop
+add-put-pairs-3 c = search laws
 
-cast-result : tie.Need-cast-result Inv-loop μ-loop
-cast-result c = search laws
+sub-put-pairs : tie.Need-sub-put-pairs Inv-loop μ-loop
+sub-put-pairs c = search laws
+
+add-put-pairs-4 : tie.Need-add-put-pairs-4 Inv-loop μ-loop
+add-put-pairs-4 c = search laws
+
+put-pairs-requires-2 : tie.Need-put-pairs-requires-2 Inv-loop μ-loop
+put-pairs-requires-2 c κs = search laws
 
 same-length-2 : tie.Need-same-length-2 Inv-loop μ-loop
 same-length-2 c = search laws
 
 returns-2 : tie.Need-returns-2 Inv-loop μ-loop
 returns-2 c = search laws
+
+add-result : tie.Need-add-result Inv-loop μ-loop
+add-result c = search laws
+
+same-length-3 : tie.Need-same-length-3 Inv-loop μ-loop
+same-length-3 c = search laws
+
+returns-3 : tie.Need-returns-3 Inv-loop μ-loop
+returns-3 c = search laws
 
 pub put-data-spec : {M : Type 1} → statement M
 put-data-spec =
@@ -92,26 +85,24 @@ put-data-spec =
     Inv-loop
     μ-loop
     loop-holds
-    mul-digit
-    add-digit
-    shared-slice-read-digit
-    digit-requires
-    mul-digit-2
-    add-digit-2
-    shared-slice-read-digit-2
-    digit-requires-2
-    mul-byte
-    add-byte
-    add-image
-    slice-write-image
-    wrapping-add-u8-requires
-    greater-requires
-    greater-requires-2
+    sub-loop
+    mul-put-pairs
+    add-put-pairs
+    add-put-pairs-2
+    put-pairs-requires
+    same-length
+    returns
+    add-sum
     add-i
     loop-less
     loop-again
-    same-length
-    returns
-    cast-result
+    mul-put-pairs-2
+    add-put-pairs-3
+    sub-put-pairs
+    add-put-pairs-4
+    put-pairs-requires-2
     same-length-2
-    returns-2)
+    returns-2
+    add-result
+    same-length-3
+    returns-3)
