@@ -10,11 +10,12 @@ ghost use Rattle.image.specs.Find.{found, foundOffset};
 ghost use Rattle.finder.specs.Places.{placed};
 ghost use Rattle.finder.specs.Told.{placeTold};
 ghost use Rattle.builder.specs.Build.{buildImage};
+ghost use Rattle.builder.specs.Lines.{linesGiven};
 ghost use Rattle.reading.specs.Told.{answerTold};
 ghost use Rattle.panel.specs.Verdict.{verdictOf};
 ghost use Rattle.panel.specs.Load.{loadText};
 ghost use Rattle.panel.specs.Reading.{readingOf};
-ghost use Rattle.bjorkneve.specs.Given.{linesGiven, countsGiven};
+ghost use Rattle.bjorkneve.specs.Given.{countsGiven};
 use finder::ToldPlace;
 use reading::Channel;
 use reading::Counts;
@@ -23,9 +24,6 @@ use reading::SensorCycles;
 use reading::ToldAnswer;
 use refusals::ToldFilled;
 use refusals::ToldVerdict;
-
-// Contents lines from two lists of numbers.
-mod lines;
 
 // Reads a HEX text into the image. Refused 1 to 4, with the line in the text as the detail.
 #[no_mangle]
@@ -87,7 +85,7 @@ pub extern "C" fn bjorkneve_build(
 ) -> ToldFilled
     ensures { λ r. ⌜ ToldFills (buildImage (length (now (image .entry))) (linesGiven (now (kinds .entry)) (now (lengths .entry))) (now (bodies .entry))) (now (image .entry)) r (now (image .exit)) ⌝ }
 {
-    refusals::tell_filled(builder::build_table(lines::table(kinds, lengths), bodies, image))
+    refusals::tell_filled(builder::build_from_numbers(kinds, lengths, bodies, image))
 }
 
 // Takes the reading of a panel of this level, by an image that is judged anew at each call. A channel has the cycles that its

@@ -1,15 +1,14 @@
 -- What the builder makes of contents lines, each a kind and a length, and of all bodies joined.
 use mathlib.Core.Bool.{Bool, true, _&&_}
 use mathlib.Core.List.{List, [], _∷_}
-use Prim.Native.Nat.{ℕ, zero, suc, _+_}
+use Prim.Native.Nat.{ℕ, _+_}
 use lib.Dec.{leb, ltb, eqb}
-use lib.ListN.{length, take, drop, getD}
+use lib.ListN.{length, take, drop}
 use Rattle.refusals.specs.declared.Verdict.{Verdict}
 use Rattle.refusals.specs.Refusals.{Outcome, checked, ask, andThen}
 use Rattle.image.specs.Layout.{linePlace}
 use Rattle.image.specs.Sections.{Section, imageOf}
 use Rattle.builder.specs.declared.Line.{Line}
-use Rattle.builder.specs.declared.Table.{Table}
 
 -- the bodies cut up by the lengths, each under its kind
 unfoldable pub sectionsOf : List Line → (bodies : List ℕ) → List Section
@@ -38,12 +37,3 @@ buildVerdict size lines bodies =
 
 unfoldable pub buildImage : (size : ℕ) → List Line → (bodies : List ℕ) → Outcome
 buildImage size lines bodies = checked (buildVerdict size lines bodies) (imageOf (sectionsOf lines bodies))
-
--- the lines of a table, `left` of them from line i on; past its 16 places a line is 0 and 0
-unfoldable pub tableLinesFrom : (kinds lengths : List ℕ) → (left i : ℕ) → List Line
-tableLinesFrom kinds lengths zero i = []
-tableLinesFrom kinds lengths (suc left) i =
-    record { kind = getD kinds i 0; length = getD lengths i 0 } ∷ tableLinesFrom kinds lengths left (i + 1)
-
-abbrev pub tableLines : Table → List Line
-tableLines table = tableLinesFrom (table .kinds) (table .lengths) (table .count) 0

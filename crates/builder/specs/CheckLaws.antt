@@ -1,4 +1,4 @@
--- The builder's checks on a table: what their loops keep, the verdict by their outcomes, and what an accepted table keeps to.
+-- The builder's checks on two lists of numbers: what their loops keep, the verdict by their outcomes, and what accepted lists keep to.
 use mathlib.Core.Path.{_≡_, sym, _∙_}
 use mathlib.Core.Bool.{Bool, true, false, not, _&&_}
 use mathlib.Core.List.{List}
@@ -6,138 +6,161 @@ use Prim.Native.Nat.{ℕ, _+_, _-_, _≤_, _<_}
 use native.Mathlib.Omega.{arith}
 use borrow.Author.Tests.{lt-ltb, le-ltb, le-leb, lt-leb, eq-eqb, ne-eqb, eqb-true, eqb-false, leb-true, not-true, not-false}
 use lib.Dec.{leb, ltb, eqb}
-use lib.ListN.{length}
+use lib.ListN.{length, drop, getD}
 use Rattle.laws.specs.Cases.{decide, both-left, both-right}
+use Rattle.laws.specs.Sums.{total, total-more, total-end}
 use Rattle.refusals.specs.declared.Verdict.{Verdict}
 use Rattle.refusals.specs.declared.Verdict.the-variants.{Accepted, Refused}
 use Rattle.refusals.specs.Refusals.{refusal}
 use Rattle.image.specs.Layout.{linePlace}
-use Rattle.builder.specs.declared.Table.{Table}
-use Rattle.builder.specs.Build.{kindsRise, lengthsTotal, buildVerdict, tableLines}
+use Rattle.builder.specs.Build.{kindsRise, buildVerdict}
+use Rattle.builder.specs.Lines.{linesGiven}
 use Rattle.builder.specs.BuildLaws.{line-small, linesRight, lengthsRight, passed}
-use Rattle.builder.specs.TableLaws.{kindIn, lengthIn, linesFrom, lines-first, lines-more, lines-end, lengths-more, lengths-end, table-counted, table-kind}
+use Rattle.builder.specs.GivenLaws.{given-uneven, given-some, given-counted, given-total, given-kind, linesFrom, lines-first, lines-more, lines-end}
 
 -- ---- 18
 
--- the kinds up to line i rise to `previous`
-pub record Rising (table : Table) (previous i : ℕ) : Type 0 where
-  pub rest : kindsRise previous (linesFrom table i) ≡ kindsRise 0 (tableLines table)
+-- the kinds up to line i rise to `previous`, whatever the lengths
+pub record Rising (kinds : List ℕ) (previous i : ℕ) : Type 0 where
+  pub rest : (lengths : List ℕ) → length kinds ≡ length lengths → kindsRise previous (linesFrom kinds lengths i) ≡ kindsRise 0 (linesGiven kinds lengths)
 
-pub rising-first : (table : Table) → Rising table 0 0
-rising-first table = record { rest = rw (lines-first table) }
+pub rising-first : (kinds : List ℕ) → Rising kinds 0 0
+rising-first kinds = record { rest = λ lengths e. rw (lines-first kinds lengths e) }
 
-module _ (table : Table) (previous i : ℕ) (h : Rising table previous i) where
-  module _ (k : i < table .count) where
-    step : kindsRise previous (linesFrom table i) ≡ ltb previous (kindIn table i) && (leb (kindIn table i) 255 && kindsRise (kindIn table i) (linesFrom table (i + 1)))
+module _ (kinds : List ℕ) (previous i : ℕ) (h : Rising kinds previous i) where
+  module _ (k : i < length kinds) where
+    step : (lengths : List ℕ) → length kinds ≡ length lengths
+        → ltb previous (getD kinds i 0) && (leb (getD kinds i 0) 255 && kindsRise (getD kinds i 0) (linesFrom kinds lengths (i + 1))) ≡ kindsRise 0 (linesGiven kinds lengths)
     unfolding kindsRise
-    step = rw (lines-more table i k)
+    step lengths e = rw (lines-more kinds lengths e i k) at (h .rest lengths e)
 
-    pub rising-more : previous < kindIn table i → kindIn table i ≤ 255 → Rising table (kindIn table i) (i + 1)
-    rising-more l m = record { rest = (rw (lt-ltb previous _ l, le-leb _ 255 m) at (sym step)) ∙ h .rest }
+    pub rising-more : previous < getD kinds i 0 → getD kinds i 0 ≤ 255 → Rising kinds (getD kinds i 0) (i + 1)
+    rising-more l m = record { rest = λ lengths e. rw (lt-ltb previous _ l, le-leb _ 255 m) at (step lengths e) }
 
-    pub rising-low : kindIn table i ≤ previous → false ≡ kindsRise 0 (tableLines table)
-    rising-low l = (rw (le-ltb previous _ l) at (sym step)) ∙ h .rest
+    pub rising-low : getD kinds i 0 ≤ previous → (lengths : List ℕ) → length kinds ≡ length lengths → false ≡ kindsRise 0 (linesGiven kinds lengths)
+    rising-low l lengths e = rw (le-ltb previous _ l) at (step lengths e)
 
     -- above 255, or above any greater bound
-    pub rising-high : (most : ℕ) → 255 ≤ most → most < kindIn table i → false ≡ kindsRise 0 (tableLines table)
-    rising-high most g m =
-        let above : 255 < kindIn table i = omega arith in
-        decide (ltb previous (kindIn table i))
-        (λ l. (rw (l, lt-leb _ 255 above) at (sym step)) ∙ h .rest)
-        (λ l. (rw l at (sym step)) ∙ h .rest)
+    pub rising-high : (most : ℕ) → 255 ≤ most → most < getD kinds i 0 → (lengths : List ℕ) → length kinds ≡ length lengths → false ≡ kindsRise 0 (linesGiven kinds lengths)
+    rising-high most g m lengths e =
+        let above : 255 < getD kinds i 0 = omega arith in
+        decide (ltb previous (getD kinds i 0))
+        (λ l. rw (l, lt-leb _ 255 above) at (step lengths e))
+        (λ l. rw l at (step lengths e))
 
-  pub rising-end : table .count ≤ i → true ≡ kindsRise 0 (tableLines table)
+  pub rising-end : length kinds ≤ i → (lengths : List ℕ) → length kinds ≡ length lengths → true ≡ kindsRise 0 (linesGiven kinds lengths)
   unfolding kindsRise
-  rising-end k = (rw (lines-end table i k) at (h .rest))
+  rising-end k lengths e = rw (lines-end kinds lengths e i k) at (h .rest lengths e)
 
-module _ (table : Table) where
-  pub lines-none : table .count < 1 → false ≡ linesRight (tableLines table)
-  lines-none h = rw (table-counted table, lt-leb 1 (table .count) h)
+module _ (kinds lengths : List ℕ) where
+  pub lines-uneven : (length kinds ≡ length lengths → ⊥) → false ≡ linesRight (linesGiven kinds lengths)
+  lines-uneven n = rw (given-uneven kinds lengths n)
 
-  pub lines-many : 16 < table .count → false ≡ linesRight (tableLines table)
-  lines-many h = let some : 1 ≤ table .count = omega arith in rw (table-counted table, le-leb 1 (table .count) some, lt-leb (table .count) 16 h)
+  module _ (e : length kinds ≡ length lengths) where
+    pub lines-none : length kinds < 1 → false ≡ linesRight (linesGiven kinds lengths)
+    lines-none h = rw (given-counted kinds lengths e, lt-leb 1 (length kinds) h)
 
-  pub lines-rise : (r : Bool) → 1 ≤ table .count → table .count ≤ 16 → r ≡ kindsRise 0 (tableLines table) → r ≡ linesRight (tableLines table)
-  lines-rise r h k e = rw (table-counted table, le-leb 1 (table .count) h, le-leb (table .count) 16 k) e
+    pub lines-many : 16 < length kinds → false ≡ linesRight (linesGiven kinds lengths)
+    lines-many h =
+        let some : 1 ≤ length kinds = omega arith in
+        rw (given-counted kinds lengths e, le-leb 1 (length kinds) some, lt-leb (length kinds) 16 h)
 
-  pub lines-few : (r : Bool) → r ≡ linesRight (tableLines table) → not r ≡ false → table .count ≤ 16
-  lines-few r e t =
-      let right = both-left _ _ (both-right (leb 1 (length (tableLines table))) _ (sym e ∙ not-false r t)) in
-      let few = leb-true (length (tableLines table)) 16 right in
-      let counted = table-counted table in
-      omega arith
+    pub lines-rise : (r : Bool) → 1 ≤ length kinds → length kinds ≤ 16
+        → ((others : List ℕ) → length kinds ≡ length others → r ≡ kindsRise 0 (linesGiven kinds others)) → r ≡ linesRight (linesGiven kinds lengths)
+    lines-rise r h k rise = rw (given-counted kinds lengths e, le-leb 1 (length kinds) h, le-leb (length kinds) 16 k) (rise lengths e)
+
+  module _ (r : Bool) (e : r ≡ linesRight (linesGiven kinds lengths)) (t : not r ≡ false) where
+    lines-even : length kinds ≡ length lengths
+    lines-even = given-some kinds lengths (leb-true 1 (length (linesGiven kinds lengths)) (both-left _ _ (sym e ∙ not-false r t)))
+
+    pub lines-few : length lengths ≤ 16
+    lines-few =
+        let right = both-left _ _ (both-right (leb 1 (length (linesGiven kinds lengths))) _ (sym e ∙ not-false r t)) in
+        let few = leb-true (length (linesGiven kinds lengths)) 16 right in
+        let even = lines-even in
+        let counted = given-counted kinds lengths even in
+        omega arith
 
 -- ---- 19
 
 -- `left` of `whole` is left when the lengths up to line i are taken off
-pub record Adding (table : Table) (whole left i : ℕ) : Type 0 where
-  pub rest : lengthsTotal (tableLines table) + left ≡ whole + lengthsTotal (linesFrom table i)
+pub record Adding (lengths : List ℕ) (whole left i : ℕ) : Type 0 where
+  pub rest : total lengths + left ≡ whole + total (drop i lengths)
 
-pub adding-first : (table : Table) (whole : ℕ) → Adding table whole whole 0
-adding-first table whole = record { rest = rw (lines-first table) (omega arith) }
+pub adding-first : (lengths : List ℕ) (whole : ℕ) → Adding lengths whole whole 0
+adding-first lengths whole = record { rest = omega arith }
 
-module _ (table : Table) (whole left i : ℕ) (h : Adding table whole left i) where
-  pub adding-more : i < table .count → lengthIn table i ≤ left → Adding table whole (left - lengthIn table i) (i + 1)
-  adding-more k l = let t = lengths-more table i k in let r = h .rest in record { rest = omega arith }
+module _ (lengths : List ℕ) (whole left i : ℕ) (h : Adding lengths whole left i) where
+  pub adding-more : i < length lengths → getD lengths i 0 ≤ left → Adding lengths whole (left - getD lengths i 0) (i + 1)
+  adding-more k l = let t = total-more lengths i k in let r = h .rest in record { rest = omega arith }
 
-  pub adding-short : i < table .count → left < lengthIn table i → false ≡ eqb (lengthsTotal (tableLines table)) whole
-  adding-short k l = let t = lengths-more table i k in let r = h .rest in sym (ne-eqb _ _ (λ (e : lengthsTotal (tableLines table) ≡ whole). omega arith))
+  pub adding-short : i < length lengths → left < getD lengths i 0 → false ≡ eqb (total lengths) whole
+  adding-short k l = let t = total-more lengths i k in let r = h .rest in sym (ne-eqb _ _ (λ (e : total lengths ≡ whole). omega arith))
 
-  pub adding-end : table .count ≤ i → eqb left 0 ≡ eqb (lengthsTotal (tableLines table)) whole
+  pub adding-end : length lengths ≤ i → eqb left 0 ≡ eqb (total lengths) whole
   adding-end k =
-      let t = lengths-end table i k in
+      let t = total-end lengths i k in
       let r = h .rest in
       decide (eqb left 0)
-      (λ e. let z = eqb-true left 0 e in e ∙ sym (eq-eqb (lengthsTotal (tableLines table)) whole (omega arith)))
-      (λ e. e ∙ sym (ne-eqb (lengthsTotal (tableLines table)) whole (λ f. eqb-false left 0 e (omega arith))))
+      (λ e. let z = eqb-true left 0 e in e ∙ sym (eq-eqb (total lengths) whole (omega arith)))
+      (λ e. e ∙ sym (ne-eqb (total lengths) whole (λ f. eqb-false left 0 e (omega arith))))
 
-module _ (table : Table) (bodies : List ℕ) where
-  pub lengths-differ : (r : Bool) → r ≡ eqb (lengthsTotal (tableLines table)) (length bodies) → not r ≡ true → false ≡ lengthsRight (tableLines table) bodies
-  lengths-differ r e t = rw (sym e ∙ not-true r t)
+module _ (lengths bodies : List ℕ) (r : Bool) (e : r ≡ eqb (total lengths) (length bodies)) where
+  pub lengths-differ : not r ≡ true → (kinds : List ℕ) → length kinds ≡ length lengths → false ≡ lengthsRight (linesGiven kinds lengths) bodies
+  lengths-differ t kinds even = rw (given-total kinds lengths even, sym e ∙ not-true r t)
 
-  pub lengths-within : (r : Bool) (n : ℕ) → r ≡ eqb (lengthsTotal (tableLines table)) (length bodies) → not r ≡ false → n ≡ linePlace (table .count) + length bodies
-      → leb n 4096 ≡ lengthsRight (tableLines table) bodies
-  lengths-within r n e t f = rw (sym e ∙ not-false r t, table-counted table, f)
+  pub lengths-within : (n : ℕ) → not r ≡ false → n ≡ linePlace (length lengths) + length bodies
+      → (kinds : List ℕ) → length kinds ≡ length lengths → leb n 4096 ≡ lengthsRight (linesGiven kinds lengths) bodies
+  lengths-within n t f kinds even = rw (given-total kinds lengths even, sym e ∙ not-false r t, given-counted kinds lengths even, even, f)
 
 -- ---- the verdict
 
-module _ (table : Table) (bodies : List ℕ) (size : ℕ) (v : Verdict) (lines : Bool) (e : lines ≡ linesRight (tableLines table)) where
-  pub verdict-lines : v ≡ Refused (refusal 18 0) → not lines ≡ true → v ≡ buildVerdict size (tableLines table) bodies
+module _ (kinds lengths bodies : List ℕ) (size : ℕ) (v : Verdict) (lines : Bool) (e : lines ≡ linesRight (linesGiven kinds lengths)) where
+  pub verdict-lines : v ≡ Refused (refusal 18 0) → not lines ≡ true → v ≡ buildVerdict size (linesGiven kinds lengths) bodies
   unfolding buildVerdict
   verdict-lines g t = rw (sym e ∙ not-true lines t) g
 
-  module _ (t : not lines ≡ false) (lengths : Bool) (f : lengths ≡ lengthsRight (tableLines table) bodies) where
-    pub verdict-lengths : v ≡ Refused (refusal 19 0) → not lengths ≡ true → v ≡ buildVerdict size (tableLines table) bodies
+  module _ (t : not lines ≡ false) (right : Bool) (f : (others : List ℕ) → length others ≡ length lengths → right ≡ lengthsRight (linesGiven others lengths) bodies) where
+    even : length kinds ≡ length lengths
+    even = lines-even kinds lengths lines e t
+
+    pub verdict-lengths : v ≡ Refused (refusal 19 0) → not right ≡ true → v ≡ buildVerdict size (linesGiven kinds lengths) bodies
     unfolding buildVerdict
-    verdict-lengths g u = rw (sym e ∙ not-false lines t, sym f ∙ not-true lengths u) g
+    verdict-lengths g u = rw (sym e ∙ not-false lines t, sym (f kinds even) ∙ not-true right u) g
 
-    module _ (u : not lengths ≡ false) (n : ℕ) (is : n ≡ linePlace (table .count) + length bodies) where
-      pub verdict-size : v ≡ Refused (refusal 17 0) → size < n → v ≡ buildVerdict size (tableLines table) bodies
+    module _ (u : not right ≡ false) (n : ℕ) (is : n ≡ linePlace (length lengths) + length bodies) where
+      counted : length (linesGiven kinds lengths) ≡ length lengths
+      counted = given-counted kinds lengths even ∙ even
+
+      pub verdict-size : v ≡ Refused (refusal 17 0) → size < n → v ≡ buildVerdict size (linesGiven kinds lengths) bodies
       unfolding buildVerdict
-      verdict-size g h = rw (sym e ∙ not-false lines t, sym f ∙ not-false lengths u, table-counted table, ← is, lt-leb n size h) g
+      verdict-size g h = rw (sym e ∙ not-false lines t, sym (f kinds even) ∙ not-false right u, counted, ← is, lt-leb n size h) g
 
-      pub verdict-accepted : v ≡ Accepted → n ≤ size → v ≡ buildVerdict size (tableLines table) bodies
+      pub verdict-accepted : v ≡ Accepted → n ≤ size → v ≡ buildVerdict size (linesGiven kinds lengths) bodies
       unfolding buildVerdict
-      verdict-accepted g h = rw (sym e ∙ not-false lines t, sym f ∙ not-false lengths u, table-counted table, ← is, le-leb n size h) g
+      verdict-accepted g h = rw (sym e ∙ not-false lines t, sym (f kinds even) ∙ not-false right u, counted, ← is, le-leb n size h) g
 
--- ---- what an accepted table keeps to
+-- ---- what accepted lists keep to
 
 -- for a buffer of `size` bytes
-pub record Buildable (table : Table) (bodies : List ℕ) (size : ℕ) : Type 0 where
-  pub few : table .count ≤ 16
-  pub small : (i : ℕ) → i < table .count → kindIn table i ≤ 255
-  pub whole : lengthsTotal (tableLines table) ≡ length bodies
-  pub limit : linePlace (table .count) + length bodies ≤ 4096
-  pub room : linePlace (table .count) + length bodies ≤ size
+pub record Buildable (kinds lengths bodies : List ℕ) (size : ℕ) : Type 0 where
+  pub even : length kinds ≡ length lengths
+  pub few : length kinds ≤ 16
+  pub small : (i : ℕ) → getD kinds i 0 ≤ 255
+  pub whole : total lengths ≡ length bodies
+  pub limit : linePlace (length kinds) + length bodies ≤ 4096
+  pub room : linePlace (length kinds) + length bodies ≤ size
 
-pub buildable : (table : Table) (bodies : List ℕ) (size : ℕ) (v : Verdict) → v ≡ buildVerdict size (tableLines table) bodies → v ≡ Accepted → Buildable table bodies size
-buildable table bodies size v e f =
-    let p = passed size (tableLines table) bodies (sym e ∙ f) in
-    let counted = table-counted table in
+pub buildable : (kinds lengths bodies : List ℕ) (size : ℕ) (v : Verdict) → v ≡ buildVerdict size (linesGiven kinds lengths) bodies → v ≡ Accepted → Buildable kinds lengths bodies size
+buildable kinds lengths bodies size v e f =
+    let p = passed size (linesGiven kinds lengths) bodies (sym e ∙ f) in
+    let even = given-some kinds lengths (p .some) in
+    let counted = given-counted kinds lengths even in
     record {
+      even = even;
       few = rw counted at (p .few);
-      small = λ i h. rw (table-kind table i h) at (line-small 0 (tableLines table) i (p .rise));
-      whole = p .whole;
+      small = λ i. rw (given-kind kinds lengths even i) at (line-small 0 (linesGiven kinds lengths) i (p .rise));
+      whole = rw (given-total kinds lengths even) at (p .whole);
       limit = rw counted at (p .limit);
       room = rw counted at (p .room);
     }

@@ -1,7 +1,7 @@
 pub mod Build
 pub mod Lines
 pub mod BuildLaws
-pub mod TableLaws
+pub mod GivenLaws
 pub mod CheckLaws
 pub mod WriteLaws
 pub mod GatherLaws

@@ -1,10 +1,22 @@
--- Lines and bodies: the lines that a list of sections is built from, and the body that a line is given.
+-- Lines and bodies: the lines that two lists of numbers give, the lines that a list of sections is built from, and the body that a line is given.
+use mathlib.Core.Bool.{cond}
 use mathlib.Core.List.{List, [], _∷_}
 use Prim.Native.Nat.{ℕ}
+use lib.Dec.{eqb}
 use lib.ListN.{length, take, drop, getD}
 use Rattle.image.specs.Sections.{Section}
 use Rattle.builder.specs.declared.Line.{Line}
 use Rattle.builder.specs.Build.{lengthsTotal}
+
+-- a line for each kind and its length, as far as both lists go
+unfoldable pub paired : (kinds lengths : List ℕ) → List Line
+paired [] lengths = []
+paired (k ∷ kinds) [] = []
+paired (k ∷ kinds) (l ∷ lengths) = record { kind = k; length = l } ∷ paired kinds lengths
+
+-- line i is kinds[i] with lengths[i]; where they are not equally many there is no line
+unfoldable pub linesGiven : (kinds lengths : List ℕ) → List Line
+linesGiven kinds lengths = cond (eqb (length kinds) (length lengths)) (paired kinds lengths) []
 
 unfoldable pub linesOf : List Section → List Line
 linesOf [] = []

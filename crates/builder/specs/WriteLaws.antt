@@ -9,7 +9,7 @@ use lib.ListN.{length, take, drop, getD, set, length-set, length-append, length-
 use lib.Seq.{sets, sets-eq, take-at, length-take-le, take-suc-set, drop-cons, drop-drop}
 use mir.Syntax.{w8, w16, w64}
 use mir.Val.{Fits}
-use Rattle.laws.specs.Sums.{total}
+use Rattle.laws.specs.Sums.{total, total-more}
 use Rattle.refusals.specs.declared.Refusal.{Refusal}
 use Rattle.refusals.specs.declared.Verdict.{Verdict}
 use Rattle.refusals.specs.declared.Verdict.the-variants.{Accepted, Refused}
@@ -19,11 +19,11 @@ use Rattle.refusals.specs.Refusals.{result}
 use Rattle.refusals.specs.RefusalsLaws.{Begins}
 use Rattle.image.specs.Layout.{linePlace}
 use Rattle.image.specs.Sections.{contentsLine, contentsFrom, imageOf}
-use Rattle.builder.specs.declared.Table.{Table}
-use Rattle.builder.specs.Build.{sectionsOf, lengthsTotal, buildVerdict, buildImage, tableLines}
+use Rattle.builder.specs.Build.{sectionsOf, buildVerdict, buildImage}
+use Rattle.builder.specs.Lines.{linesGiven}
 use Rattle.builder.specs.BuildLaws.{sections-counted, bodies-whole}
 use Rattle.builder.specs.CheckLaws.{Buildable}
-use Rattle.builder.specs.TableLaws.{kindIn, lengthIn, linesFrom, lines-first, lines-more, lines-end, lengths-more, table-counted}
+use Rattle.builder.specs.GivenLaws.{given-counted, given-total, linesFrom, lines-first, lines-more, lines-end}
 
 -- ---- stores in a row
 
@@ -72,96 +72,102 @@ module _ (place : ℕ) (block before : List ℕ) (i : ℕ) (image : List ℕ) (h
 
 -- ---- the contents lines
 
-pub kind-fits : (table : Table) (bodies : List ℕ) (size i : ℕ) → Buildable table bodies size → i < table .count → Fits w8 (kindIn table i)
-kind-fits table bodies size i b h = record { fits = omega (arith, b .small i h) }
+pub kind-fits : (kinds lengths bodies : List ℕ) (size i : ℕ) → Buildable kinds lengths bodies size → Fits w8 (getD kinds i 0)
+kind-fits kinds lengths bodies size i b = record { fits = omega (arith, b .small i) }
 
 pub sum-of-part : (bodies : List ℕ) (start size sum : ℕ) → sum ≡ total (take (start + size - start) (drop start bodies)) % 65536
     → sum ≡ total (take size (drop start bodies)) % 65536
 sum-of-part bodies start size sum e = let long : start + size - start ≡ size = omega arith in rw long at e
 
 -- the line of the next body, and the lines after it
-contents-more : (table : Table) (bodies : List ℕ) (offset start i sum : ℕ) → i < table .count → start + lengthIn table i ≤ length bodies
-    → sum ≡ total (take (lengthIn table i) (drop start bodies)) % 65536
-    → contentsFrom offset (sectionsOf (linesFrom table i) (drop start bodies))
-    ≡ contentsLine (kindIn table i) offset (lengthIn table i) sum
-    ++ contentsFrom (offset + lengthIn table i) (sectionsOf (linesFrom table (i + 1)) (drop (start + lengthIn table i) bodies))
+contents-more : (kinds lengths bodies : List ℕ) (offset start i sum : ℕ) → length kinds ≡ length lengths → i < length kinds → start + getD lengths i 0 ≤ length bodies
+    → sum ≡ total (take (getD lengths i 0) (drop start bodies)) % 65536
+    → contentsFrom offset (sectionsOf (linesFrom kinds lengths i) (drop start bodies))
+    ≡ contentsLine (getD kinds i 0) offset (getD lengths i 0) sum
+    ++ contentsFrom (offset + getD lengths i 0) (sectionsOf (linesFrom kinds lengths (i + 1)) (drop (start + getD lengths i 0) bodies))
 unfolding contentsFrom sectionsOf
-contents-more table bodies offset start i sum h within e =
-    let left : lengthIn table i ≤ length (drop start bodies) = omega (arith, length-drop start bodies) in
-    let long = length-take-le (lengthIn table i) (drop start bodies) left in
-    rw (lines-more table i h, e, long, drop-drop (lengthIn table i) start bodies)
+contents-more kinds lengths bodies offset start i sum even h within e =
+    let left : getD lengths i 0 ≤ length (drop start bodies) = omega (arith, length-drop start bodies) in
+    let long = length-take-le (getD lengths i 0) (drop start bodies) left in
+    rw (lines-more kinds lengths even i h, e, long, drop-drop (getD lengths i 0) start bodies)
 
 -- i lines are written, and the bodies of those left begin at `start`
-pub record Writing (table : Table) (bodies before : List ℕ) (start i : ℕ) (image : List ℕ) : Type 0 where
-  pub upto : i ≤ table .count
-  pub rest : take (linePlace i) image ++ contentsFrom (linePlace (table .count) + start) (sectionsOf (linesFrom table i) (drop start bodies))
-      ≡ take 2 before ++ contentsFrom (linePlace (table .count)) (sectionsOf (tableLines table) bodies)
-  pub left : start + lengthsTotal (linesFrom table i) ≡ length bodies
+pub record Writing (kinds lengths bodies before : List ℕ) (start i : ℕ) (image : List ℕ) : Type 0 where
+  pub even : length kinds ≡ length lengths
+  pub upto : i ≤ length kinds
+  pub rest : take (linePlace i) image ++ contentsFrom (linePlace (length kinds) + start) (sectionsOf (linesFrom kinds lengths i) (drop start bodies))
+      ≡ take 2 before ++ contentsFrom (linePlace (length kinds)) (sectionsOf (linesGiven kinds lengths) bodies)
+  pub left : start + total (drop i lengths) ≡ length bodies
   pub long : length image ≡ length before
 
-pub writing-first : (table : Table) (bodies image : List ℕ) (size : ℕ) → Buildable table bodies size → Writing table bodies image 0 0 image
-writing-first table bodies image size b = record {
+pub writing-first : (kinds lengths bodies image : List ℕ) (size : ℕ) → Buildable kinds lengths bodies size → Writing kinds lengths bodies image 0 0 image
+writing-first kinds lengths bodies image size b = record {
+  even = b .even;
   upto = omega arith;
-  rest = rw (lines-first table, add-zero (linePlace (table .count)));
-  left = rw (lines-first table) (omega (arith, b .whole));
+  rest = rw (lines-first kinds lengths (b .even), add-zero (linePlace (length kinds)));
+  left = omega (arith, b .whole);
   long = refl;
 }
 
-module _ (table : Table) (bodies before : List ℕ) (start i : ℕ) (image : List ℕ) (w : Writing table bodies before start i image) where
-  pub body-within : i < table .count → start + lengthIn table i ≤ length bodies
-  body-within h = omega (arith, lengths-more table i h, w .left)
+module _ (kinds lengths bodies before : List ℕ) (start i : ℕ) (image : List ℕ) (w : Writing kinds lengths bodies before start i image) where
+  left-more : i < length kinds → total (drop i lengths) ≡ getD lengths i 0 + total (drop (i + 1) lengths)
+  left-more h = total-more lengths i (omega (arith, w .even))
 
-  pub length-fits : (size : ℕ) → Buildable table bodies size → i < table .count → Fits w16 (lengthIn table i)
+  pub body-within : i < length kinds → start + getD lengths i 0 ≤ length bodies
+  body-within h = omega (arith, left-more h, w .left)
+
+  pub length-fits : (size : ℕ) → Buildable kinds lengths bodies size → i < length kinds → Fits w16 (getD lengths i 0)
   length-fits size b h = record { fits = omega (arith, body-within h, b .limit) }
 
-  pub start-fits : (size : ℕ) → Buildable table bodies size → i < table .count → Fits w64 (start + lengthIn table i)
+  pub start-fits : (size : ℕ) → Buildable kinds lengths bodies size → i < length kinds → Fits w64 (start + getD lengths i 0)
   start-fits size b h = record { fits = omega (arith, body-within h, b .limit) }
 
-  pub writing-more : (image′ : List ℕ) (sum place first : ℕ) → i < table .count → sum ≡ total (take (lengthIn table i) (drop start bodies)) % 65536
-      → place ≡ linePlace i → first ≡ linePlace (table .count)
-      → take (place + 8) image′ ≡ take place image ++ contentsLine (kindIn table i) (first + start) (lengthIn table i) sum
-      → length image′ ≡ length image → Writing table bodies before (start + lengthIn table i) (i + 1) image′
+  pub writing-more : (image′ : List ℕ) (sum place first : ℕ) → i < length kinds → sum ≡ total (take (getD lengths i 0) (drop start bodies)) % 65536
+      → place ≡ linePlace i → first ≡ linePlace (length kinds)
+      → take (place + 8) image′ ≡ take place image ++ contentsLine (getD kinds i 0) (first + start) (getD lengths i 0) sum
+      → length image′ ≡ length image → Writing kinds lengths bodies before (start + getD lengths i 0) (i + 1) image′
   writing-more image′ sum place first h e is is-first put kept = record {
+    even = w .even;
     upto = omega arith;
     rest =
         let next : linePlace (i + 1) ≡ linePlace i + 8 = omega arith in
-        let more = contents-more table bodies (linePlace (table .count) + start) start i sum h (body-within h) e in
-        rw (next, rw (is, is-first) at put, ← add-assoc (linePlace (table .count)) start (lengthIn table i)) (append-assoc (take (linePlace i) image) _ _ ∙ (rw more at (w .rest)));
-    left = omega (arith, lengths-more table i h, w .left);
+        let more = contents-more kinds lengths bodies (linePlace (length kinds) + start) start i sum (w .even) h (body-within h) e in
+        rw (next, rw (is, is-first) at put, ← add-assoc (linePlace (length kinds)) start (getD lengths i 0)) (append-assoc (take (linePlace i) image) _ _ ∙ (rw more at (w .rest)));
+    left = omega (arith, left-more h, w .left);
     long = kept ∙ w .long;
   }
 
-  pub writing-end : table .count ≤ i → take (linePlace (table .count)) image ≡ take 2 before ++ contentsFrom (linePlace (table .count)) (sectionsOf (tableLines table) bodies)
+  pub writing-end : length kinds ≤ i → take (linePlace (length kinds)) image ≡ take 2 before ++ contentsFrom (linePlace (length kinds)) (sectionsOf (linesGiven kinds lengths) bodies)
   unfolding contentsFrom sectionsOf
   writing-end h =
-      let end : i ≡ table .count = omega (arith, w .upto) in
-      rw end at (sym (append-nil (take (linePlace i) image)) ∙ (rw (lines-end table i h) at (w .rest)))
+      let end : i ≡ length kinds = omega (arith, w .upto) in
+      rw end at (sym (append-nil (take (linePlace i) image)) ∙ (rw (lines-end kinds lengths (w .even) i h) at (w .rest)))
 
 -- ---- the whole image
 
 -- its three parts after one another: after the first two bytes the buffer is `started`, after the contents `listed`, and after the bodies `image`
-pub image-written : (table : Table) (bodies before started listed image : List ℕ) (place size : ℕ) → Buildable table bodies (length before)
+pub image-written : (kinds lengths bodies before started listed image : List ℕ) (place size : ℕ) → Buildable kinds lengths bodies (length before)
     → length started ≡ length before → length listed ≡ length started → length image ≡ length listed
-    → take 2 started ≡ 0x51 ∷ table .count ∷ []
-    → take (linePlace (table .count)) listed ≡ take 2 started ++ contentsFrom (linePlace (table .count)) (sectionsOf (tableLines table) bodies)
-    → place ≡ linePlace (table .count) → take (place + length bodies) image ≡ take place listed ++ bodies
-    → size ≡ linePlace (table .count) + length bodies → Begins (result (imageOf (sectionsOf (tableLines table) bodies))) (Length size) image
+    → take 2 started ≡ 0x51 ∷ length kinds ∷ []
+    → take (linePlace (length kinds)) listed ≡ take 2 started ++ contentsFrom (linePlace (length kinds)) (sectionsOf (linesGiven kinds lengths) bodies)
+    → place ≡ linePlace (length kinds) → take (place + length bodies) image ≡ take place listed ++ bodies
+    → size ≡ linePlace (length kinds) + length bodies → Begins (result (imageOf (sectionsOf (linesGiven kinds lengths) bodies))) (Length size) image
 unfolding imageOf
-image-written table bodies before started listed image place size b k₁ k₂ k₃ e f is g is-size =
-    let counted = sections-counted (tableLines table) bodies ∙ table-counted table in
-    let whole = bodies-whole (tableLines table) bodies (b .whole) in
-    let all : take (linePlace (table .count) + length bodies) image ≡ imageOf (sectionsOf (tableLines table) bodies) = rw (counted, whole) ((rw is at g) ∙ rw (f, e)) in
-    let room : linePlace (table .count) + length bodies ≤ length image = omega (arith, b .room) in
-    rw is-size (record { answers = ap Length (sym (length-take-le (linePlace (table .count) + length bodies) image room) ∙ ap length all); begins = all })
+image-written kinds lengths bodies before started listed image place size b k₁ k₂ k₃ e f is g is-size =
+    let counted = sections-counted (linesGiven kinds lengths) bodies ∙ given-counted kinds lengths (b .even) in
+    let whole = bodies-whole (linesGiven kinds lengths) bodies (given-total kinds lengths (b .even) ∙ b .whole) in
+    let all : take (linePlace (length kinds) + length bodies) image ≡ imageOf (sectionsOf (linesGiven kinds lengths) bodies) = rw (counted, whole) ((rw is at g) ∙ rw (f, e)) in
+    let room : linePlace (length kinds) + length bodies ≤ length image = omega (arith, b .room) in
+    rw is-size (record { answers = ap Length (sym (length-take-le (linePlace (length kinds) + length bodies) image room) ∙ ap length all); begins = all })
 
 -- ---- by the verdict
 
-module _ (table : Table) (bodies : List ℕ) (size : ℕ) (v : Verdict) (e : v ≡ buildVerdict size (tableLines table) bodies) where
-  pub begun-refused : (r : Refusal) (buffer : List ℕ) → v ≡ Refused r → Begins (buildImage size (tableLines table) bodies) (NotFilled r) buffer
+module _ (kinds lengths bodies : List ℕ) (size : ℕ) (v : Verdict) (e : v ≡ buildVerdict size (linesGiven kinds lengths) bodies) where
+  pub begun-refused : (r : Refusal) (buffer : List ℕ) → v ≡ Refused r → Begins (buildImage size (linesGiven kinds lengths) bodies) (NotFilled r) buffer
   unfolding buildImage
   begun-refused r buffer f = rw (sym e ∙ f) (record { answers = refl; begins = refl })
 
-  pub begun-accepted : (a : Filled) (buffer : List ℕ) → v ≡ Accepted → Begins (result (imageOf (sectionsOf (tableLines table) bodies))) a buffer
-      → Begins (buildImage size (tableLines table) bodies) a buffer
+  pub begun-accepted : (a : Filled) (buffer : List ℕ) → v ≡ Accepted → Begins (result (imageOf (sectionsOf (linesGiven kinds lengths) bodies))) a buffer
+      → Begins (buildImage size (linesGiven kinds lengths) bodies) a buffer
   unfolding buildImage
   begun-accepted a buffer f b = rw (sym e ∙ f) b

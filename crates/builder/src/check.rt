@@ -1,24 +1,25 @@
 ghost use mathlib.Core.Path.{_≡_};
-ghost use Prim.Native.Nat.{_≤_};
+ghost use mathlib.Core.List.{List};
+ghost use Prim.Native.Nat.{ℕ, _≤_};
 ghost use lib.Dec.{eqb};
 ghost use lib.ListN.{length};
+ghost use Rattle.laws.specs.Sums.{total};
 ghost use Rattle.refusals.specs.Refusals.{refusal};
-ghost use Rattle.builder.specs.Build.{kindsRise, lengthsTotal, buildVerdict, tableLines};
+ghost use Rattle.builder.specs.Build.{kindsRise, buildVerdict};
+ghost use Rattle.builder.specs.Lines.{linesGiven};
 ghost use Rattle.builder.specs.BuildLaws.{linesRight, lengthsRight};
-use crate::Table;
 use crate::place;
 use refusals::Refusal;
 use refusals::Verdict;
 
-// Whether the kinds strictly rise within 1 to 255.
-fn kinds_rise(table: Table) -> bool
-    requires { ⌜ table .count ≤ 16 ⌝ }
-    ensures { λ r. ⌜ r ≡ kindsRise 0 (tableLines table) ⌝ }
+// Whether the kinds strictly rise within 1 to 255, whatever their lengths.
+fn kinds_rise(kinds: &[u32]) -> bool
+    ensures { λ r. ⌜ ((lengths : List ℕ) → length (now (kinds .entry)) ≡ length lengths → r ≡ kindsRise 0 (linesGiven (now (kinds .entry)) lengths)) ⌝ }
 {
     let mut previous: u32 = 0;
     let mut i: usize = 0;
-    while i < table.count {
-        let kind = table.kinds[i];
+    while i < kinds.len() {
+        let kind = kinds[i];
         if kind <= previous {
             return false;
         }
@@ -31,27 +32,29 @@ fn kinds_rise(table: Table) -> bool
     true
 }
 
-fn lines_right(table: Table) -> bool
-    ensures { λ r. ⌜ r ≡ linesRight (tableLines table) ⌝ }
+fn lines_right(kinds: &[u32], lengths: &[usize]) -> bool
+    ensures { λ r. ⌜ r ≡ linesRight (linesGiven (now (kinds .entry)) (now (lengths .entry))) ⌝ }
 {
-    if table.count < 1 {
+    if kinds.len() != lengths.len() {
         return false;
     }
-    if 16 < table.count {
+    if kinds.len() < 1 {
         return false;
     }
-    kinds_rise(table)
+    if 16 < kinds.len() {
+        return false;
+    }
+    kinds_rise(kinds)
 }
 
 // Whether the lengths add up to `whole`. Their sum could wrap, so each is taken off what is left.
-fn lengths_add_up(table: Table, whole: usize) -> bool
-    requires { ⌜ table .count ≤ 16 ⌝ }
-    ensures { λ r. ⌜ r ≡ eqb (lengthsTotal (tableLines table)) whole ⌝ }
+fn lengths_add_up(lengths: &[usize], whole: usize) -> bool
+    ensures { λ r. ⌜ r ≡ eqb (total (now (lengths .entry))) whole ⌝ }
 {
     let mut left = whole;
     let mut i: usize = 0;
-    while i < table.count {
-        let length = table.lengths[i];
+    while i < lengths.len() {
+        let length = lengths[i];
         if left < length {
             return false;
         }
@@ -61,14 +64,15 @@ fn lengths_add_up(table: Table, whole: usize) -> bool
     left == 0
 }
 
-fn lengths_right(table: Table, bodies: &[u8]) -> bool
-    requires { ⌜ table .count ≤ 16 ⌝ }
-    ensures { λ r. ⌜ r ≡ lengthsRight (tableLines table) (now (bodies .entry)) ⌝ }
+// Whatever the kinds.
+fn lengths_right(lengths: &[usize], bodies: &[u8]) -> bool
+    requires { ⌜ length (now lengths) ≤ 16 ⌝ }
+    ensures { λ r. ⌜ ((kinds : List ℕ) → length kinds ≡ length (now (lengths .entry)) → r ≡ lengthsRight (linesGiven kinds (now (lengths .entry))) (now (bodies .entry))) ⌝ }
 {
-    if !lengths_add_up(table, bodies.len()) {
+    if !lengths_add_up(lengths, bodies.len()) {
         return false;
     }
-    place::image_length(table.count, bodies) <= 4096
+    place::image_length(lengths.len(), bodies) <= 4096
 }
 
 fn refused(number: u32) -> Verdict
@@ -78,16 +82,16 @@ fn refused(number: u32) -> Verdict
 }
 
 // For a buffer of `size` bytes.
-pub fn verdict(table: Table, bodies: &[u8], size: usize) -> Verdict
-    ensures { λ r. ⌜ r ≡ buildVerdict size (tableLines table) (now (bodies .entry)) ⌝ }
+pub fn verdict(kinds: &[u32], lengths: &[usize], bodies: &[u8], size: usize) -> Verdict
+    ensures { λ r. ⌜ r ≡ buildVerdict size (linesGiven (now (kinds .entry)) (now (lengths .entry))) (now (bodies .entry)) ⌝ }
 {
-    if !lines_right(table) {
+    if !lines_right(kinds, lengths) {
         return refused(18);
     }
-    if !lengths_right(table, bodies) {
+    if !lengths_right(lengths, bodies) {
         return refused(19);
     }
-    if size < place::image_length(table.count, bodies) {
+    if size < place::image_length(lengths.len(), bodies) {
         return refused(17);
     }
     Verdict::Accepted

@@ -1,8 +1,11 @@
 // The image of a list of contents lines and their bodies.
+ghost use mathlib.Core.List.{List};
 ghost use lib.ListN.{length};
 ghost use Rattle.refusals.specs.Refusals.{Fills};
 ghost use Rattle.refusals.specs.RefusalsLaws.{Begins};
-ghost use Rattle.builder.specs.Build.{buildImage, tableLines};
+ghost use Rattle.builder.specs.Build.{buildImage};
+ghost use Rattle.builder.specs.Lines.{linesGiven};
+ghost use Rattle.builder.specs.GatherLaws.{Gathered};
 use refusals::Filled;
 use refusals::Verdict;
 
@@ -24,30 +27,48 @@ pub struct Line {
     pub length: usize,
 }
 
-// Up to 16 contents lines by value; `count` of them are meant.
-pub struct Table {
-    pub kinds: [u32; 16],
-    pub lengths: [usize; 16],
-    pub count: usize,
+// Up to 16 contents lines by value, the first `count` of what it holds; `count` is 17 where there are more.
+struct Table {
+    kinds: [u32; 16],
+    lengths: [usize; 16],
+    count: usize,
 }
 
 // The answer, and the image at the buffer's start where there is one.
-fn begun(table: Table, bodies: &[u8], image: &mut [u8]) -> Filled
-    ensures { λ r. ⌜ Begins (buildImage (length (now (image .entry))) (tableLines table) (now (bodies .entry))) r (now (image .exit)) ⌝ }
+fn begun(kinds: &[u32], lengths: &[usize], bodies: &[u8], image: &mut [u8]) -> Filled
+    ensures { λ r. ⌜ Begins (buildImage (length (now (image .entry))) (linesGiven (now (kinds .entry)) (now (lengths .entry))) (now (bodies .entry))) r (now (image .exit)) ⌝ }
 {
-    let verdict = check::verdict(table, bodies, image.len());
+    let verdict = check::verdict(kinds, lengths, bodies, image.len());
     match verdict {
-        Verdict::Accepted => write::image(table, bodies, image),
+        Verdict::Accepted => write::image(kinds, lengths, bodies, image),
         Verdict::Refused(refusal) => Filled::Refused(refusal),
     }
 }
 
-// The builder on numbers and bytes.
-pub fn build_table(table: Table, bodies: &[u8], image: &mut [u8]) -> Filled
-    ensures { λ r. ⌜ Fills (buildImage (length (now (image .entry))) (tableLines table) (now (bodies .entry))) (now (image .entry)) r (now (image .exit)) ⌝ }
+// The builder on numbers and bytes: line i is kinds[i] with lengths[i].
+pub fn build_from_numbers(
+    kinds: &[u32],
+    lengths: &[usize],
+    bodies: &[u8],
+    image: &mut [u8],
+) -> Filled
+    ensures { λ r. ⌜ Fills (buildImage (length (now (image .entry))) (linesGiven (now (kinds .entry)) (now (lengths .entry))) (now (bodies .entry))) (now (image .entry)) r (now (image .exit)) ⌝ }
 {
-    let answer = begun(table, bodies, image);
+    let answer = begun(kinds, lengths, bodies, image);
     refusals::settled(answer, image)
+}
+
+// The builder on the lines that were gathered. Of too many none are handed on, which is refused alike.
+fn build_table(table: Table, bodies: &[u8], image: &mut [u8]) -> Filled
+    ensures { λ r. ⌜ ((lines : List Line) → Gathered table lines → Fills (buildImage (length (now (image .entry))) lines (now (bodies .entry))) (now (image .entry)) r (now (image .exit))) ⌝ }
+{
+    let kinds = table.kinds;
+    let lengths = table.lengths;
+    let count = table.count;
+    if 16 < count {
+        return build_from_numbers(&kinds[..0], &lengths[..0], bodies, image);
+    }
+    build_from_numbers(&kinds[..count], &lengths[..count], bodies, image)
 }
 
 // The builder on a lent list of lines, of which no more than 17 are looked at.

@@ -7,9 +7,9 @@ ghost use Rattle.refusals.specs.Refusals.{result};
 ghost use Rattle.refusals.specs.RefusalsLaws.{Begins};
 ghost use Rattle.image.specs.Layout.{linePlace};
 ghost use Rattle.image.specs.Sections.{contentsLine, contentsFrom, imageOf};
-ghost use Rattle.builder.specs.Build.{sectionsOf, tableLines};
+ghost use Rattle.builder.specs.Build.{sectionsOf};
+ghost use Rattle.builder.specs.Lines.{linesGiven};
 ghost use Rattle.builder.specs.CheckLaws.{Buildable};
-use crate::Table;
 use crate::place;
 use numbers::slices;
 use refusals::Filled;
@@ -39,20 +39,20 @@ fn body_sum(bodies: &[u8], start: usize, size: usize) -> u16
 }
 
 // The contents lines, after the image's first two bytes.
-fn contents(table: Table, bodies: &[u8], image: &mut [u8])
-    requires { ⌜ Buildable table (now bodies) (length (now image)) ⌝ }
-    ensures { λ _. ⌜ take (linePlace (table .count)) (now (image .exit)) ≡ take 2 (now (image .entry)) ++ contentsFrom (linePlace (table .count)) (sectionsOf (tableLines table) (now (bodies .entry))) ⌝ }
+fn contents(kinds: &[u32], lengths: &[usize], bodies: &[u8], image: &mut [u8])
+    requires { ⌜ Buildable (now kinds) (now lengths) (now bodies) (length (now image)) ⌝ }
+    ensures { λ _. ⌜ take (linePlace (length (now (kinds .entry)))) (now (image .exit)) ≡ take 2 (now (image .entry)) ++ contentsFrom (linePlace (length (now (kinds .entry)))) (sectionsOf (linesGiven (now (kinds .entry)) (now (lengths .entry))) (now (bodies .entry))) ⌝ }
 {
-    let first = place::line_place(table.count);
+    let first = place::line_place(kinds.len());
     let mut start: usize = 0;
     let mut i: usize = 0;
-    while i < table.count {
-        let length = table.lengths[i];
+    while i < kinds.len() {
+        let length = lengths[i];
         let sum = body_sum(bodies, start, length);
         line(
             image,
             place::line_place(i),
-            table.kinds[i] as u8,
+            kinds[i] as u8,
             (first + start) as u16,
             length as u16,
             sum,
@@ -84,12 +84,12 @@ fn start(image: &mut [u8], count: u8)
 }
 
 // The image, from the buffer's start.
-pub fn image(table: Table, bodies: &[u8], image: &mut [u8]) -> Filled
-    requires { ⌜ Buildable table (now bodies) (length (now image)) ⌝ }
-    ensures { λ r. ⌜ Begins (result (imageOf (sectionsOf (tableLines table) (now (bodies .entry))))) r (now (image .exit)) ⌝ }
+pub fn image(kinds: &[u32], lengths: &[usize], bodies: &[u8], image: &mut [u8]) -> Filled
+    requires { ⌜ Buildable (now kinds) (now lengths) (now bodies) (length (now image)) ⌝ }
+    ensures { λ r. ⌜ Begins (result (imageOf (sectionsOf (linesGiven (now (kinds .entry)) (now (lengths .entry))) (now (bodies .entry))))) r (now (image .exit)) ⌝ }
 {
-    start(image, table.count as u8);
-    contents(table, bodies, image);
-    block(image, place::line_place(table.count), bodies);
-    Filled::Length(place::image_length(table.count, bodies))
+    start(image, kinds.len() as u8);
+    contents(kinds, lengths, bodies, image);
+    block(image, place::line_place(kinds.len()), bodies);
+    Filled::Length(place::image_length(kinds.len(), bodies))
 }

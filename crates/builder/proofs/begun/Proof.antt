@@ -7,19 +7,19 @@ use Rattle.builder.proofs.begun.Tie as tie
 ruleset laws = (needs, buildable, begun-accepted, begun-refused)
 
 verdict-requires : tie.Need-verdict-requires
-verdict-requires c κs = search laws
+verdict-requires c κs = search needs
 
 enum-told : tie.Need-enum-told
-enum-told c = search laws
+enum-told c = search needs
 
 image-requires : tie.Need-image-requires
 image-requires c κs = search laws
 
 enum-known-verdict : tie.Need-enum-known-verdict
-enum-known-verdict c = search laws
+enum-known-verdict c = search needs
 
 same-length : tie.Need-same-length
-same-length c = search laws
+same-length c = search needs
 
 returns : tie.Need-returns
 returns c = search laws

@@ -61,9 +61,9 @@ use Rattle.refusals.proofs.Filled.{the-row as filled-row, the-type as filled-ty
 use Rattle.refusals.proofs.Filled.Laws.{the-laws as filled-laws, mir as filled-mir}
 use Rattle.builder.specs.declared.Line.{Line}
 use Rattle.builder.specs.declared.Table.{Table}
-use Rattle.builder.specs.Build.{buildImage, tableLines}
+use Rattle.builder.specs.Build.{buildImage}
 use Rattle.builder.specs.Lines.{noLine}
-use Rattle.builder.specs.GatherLaws.{Gathered, gathered-all, gathered-builds}
+use Rattle.builder.specs.GatherLaws.{Gathered, gathered-all}
 use Rattle.builder.proofs.Line.{the-row as line-row, the-type as line-type}
 use Rattle.builder.proofs.Line.Laws.{the-laws as line-laws, the-plain as line-plain, the-copy as line-copy, mir as line-mir}
 use Rattle.builder.proofs.Table.{the-row as table-row, the-type as table-type}
@@ -376,7 +376,7 @@ module _ {M : Type 1} (𝓤 : URA M) (H : Heap 𝓤) (A : Atoms 𝓤) (W : Given
 
         -- what `build_table` promises of its result and of the image at exit
         abbrev Filling : State (now lines) count → Filled → List ℕ → Type 0
-        Filling s r after = Fills (buildImage (length (now image)) (tableLines (s .table)) (now bodies)) (now image) r after
+        Filling s r after = (given : List Line) → Gathered (s .table) given → Fills (buildImage (length (now image)) given (now bodies)) (now image) r after
 
         leaves : (s : State (now lines) count) → ltb (s .i) count ≡ false → Sq W (At s) (runs C Λ En mir.turn-1 (anyQ (Turned s)))
         unfolding afterTurn
@@ -403,16 +403,13 @@ module _ {M : Type 1} (𝓤 : URA M) (H : Heap 𝓤) (A : Atoms 𝓤) (W : Given
             forget ! (4 + spot 5) refl $ forget ! (4 + spot 6) refl $ forget ! (4 + spot 8) refl $ forget ! (4 + spot 12) refl $ forget ! (4 + spot 13) refl $
             keep ! (32 ∷ 33 ∷ 30 ∷ 31 ∷ 28 ∷ 29 ∷ 26 ∷ 27 ∷ 24 ∷ 25 ∷ 22 ∷ 23 ∷ 20 ∷ 21 ∷ 18 ∷ 19 ∷ 16 ∷ 17 ∷ 14 ∷ 15 ∷ 12 ∷ 13 ∷ 10 ∷ 11 ∷ 8 ∷ 9 ∷ 6 ∷ 7 ∷ 5 ∷ 3 ∷ 34 ∷ 35 ∷ 1 ∷ 0 ∷ []) $
             free1 ! $ free1 ! $ free1 ! $ free1 ! $ free1 ! $ free1 ! $ free1 ! $ free1 ! $ free1 ! $ free1 ! $ free1 ! $ free1 ! $ free1 ! $ free1 ! $ free0 ! $
-            by ! (exits r w (ends .1 .1 .0) (of-lines r (ends .1 .1 .0) fills) long)))))
+            by ! (exits r w (ends .1 .1 .0) (fills (now lines) all) long)))))
           where
             end : s .i ≡ count
             end = omega (arith, s .within, ltb-false (s .i) count e)
 
             all : Gathered (s .table) (now lines)
             all = gathered-all (s .table) (now lines) count is-count (subst (λ (k : ℕ). Gathered (s .table) (take k (now lines))) end (s .gathered))
-
-            of-lines : (r : Filled) (after : List ℕ) → Filling s r after → Fills (buildImage (length (now image)) (now lines) (now bodies)) (now image) r after
-            of-lines r after fills = rw (gathered-builds (s .table) (now lines) (length (now image)) (now bodies) all) at fills
 
         turns : (s : State (now lines) count) (t : Bool) → ltb (s .i) count ≡ t → Sq W (At s) (runs C Λ En mir.turn-1 (anyQ (Turned s)))
         turns s true e = takes s e

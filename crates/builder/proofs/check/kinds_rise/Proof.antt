@@ -1,4 +1,5 @@
 use Prim.Native.Nat.{_-_}
+use lib.ListN.{length}
 use borrow.Author.Needs.{needs}
 use Rattle.builder.specs.CheckLaws.{Rising, rising-first, rising-more, rising-low, rising-high, rising-end}
 use Rattle.builder.proofs.check.kinds_rise.Statement.{statement}
@@ -7,10 +8,10 @@ use Rattle.builder.proofs.check.kinds_rise.Tie as tie
 ruleset laws = (needs, rising-first, rising-more, rising-low, rising-high, rising-end)
 
 abbrev Inv-loop : tie.InvT-loop
-Inv-loop table previous₀ i₀ previous i = Rising table previous i
+Inv-loop kinds previous₀ i₀ previous i = Rising kinds previous i
 
 abbrev μ-loop : tie.MeasureT-loop
-μ-loop table previous₀ i₀ previous i = table .count - i
+μ-loop kinds previous₀ i₀ previous i = length kinds - i
 
 loop-holds : tie.Need-loop-holds Inv-loop μ-loop
 loop-holds c = search laws
@@ -18,8 +19,8 @@ loop-holds c = search laws
 mul-kind : tie.Need-mul-kind Inv-loop μ-loop
 mul-kind c = search laws
 
-element-copy-out-kind : tie.Need-element-copy-out-kind Inv-loop μ-loop
-element-copy-out-kind c = search laws
+shared-slice-read-kind : tie.Need-shared-slice-read-kind Inv-loop μ-loop
+shared-slice-read-kind c = search laws
 
 returns : tie.Need-returns Inv-loop μ-loop
 returns c = search laws
@@ -47,7 +48,7 @@ kinds-rise-spec =
     μ-loop
     loop-holds
     mul-kind
-    element-copy-out-kind
+    shared-slice-read-kind
     returns
     returns-2
     add-i

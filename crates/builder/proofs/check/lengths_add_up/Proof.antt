@@ -1,4 +1,5 @@
 use Prim.Native.Nat.{_-_}
+use lib.ListN.{length}
 use borrow.Author.Needs.{needs}
 use Rattle.builder.specs.CheckLaws.{Adding, adding-first, adding-more, adding-short, adding-end}
 use Rattle.builder.proofs.check.lengths_add_up.Statement.{statement}
@@ -7,10 +8,10 @@ use Rattle.builder.proofs.check.lengths_add_up.Tie as tie
 ruleset laws = (needs, adding-first, adding-more, adding-short, adding-end)
 
 abbrev Inv-loop : tie.InvT-loop
-Inv-loop whole table left₀ i₀ left i = Adding table whole left i
+Inv-loop lengths whole left₀ i₀ left i = Adding lengths whole left i
 
 abbrev μ-loop : tie.MeasureT-loop
-μ-loop whole table left₀ i₀ left i = table .count - i
+μ-loop lengths whole left₀ i₀ left i = length lengths - i
 
 loop-holds : tie.Need-loop-holds Inv-loop μ-loop
 loop-holds c = search laws
@@ -18,8 +19,8 @@ loop-holds c = search laws
 mul-length : tie.Need-mul-length Inv-loop μ-loop
 mul-length c = search laws
 
-element-copy-out-length : tie.Need-element-copy-out-length Inv-loop μ-loop
-element-copy-out-length c = search laws
+shared-slice-read-length : tie.Need-shared-slice-read-length Inv-loop μ-loop
+shared-slice-read-length c = search laws
 
 returns : tie.Need-returns Inv-loop μ-loop
 returns c = search laws
@@ -44,7 +45,7 @@ lengths-add-up-spec =
     μ-loop
     loop-holds
     mul-length
-    element-copy-out-length
+    shared-slice-read-length
     returns
     add-i
     loop-less

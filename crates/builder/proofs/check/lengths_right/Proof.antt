@@ -6,13 +6,13 @@ use Rattle.builder.proofs.check.lengths_right.Tie as tie
 ruleset laws = (needs, lengths-differ, lengths-within)
 
 lengths-add-up-requires : tie.Need-lengths-add-up-requires
-lengths-add-up-requires c κs = search laws
+lengths-add-up-requires c κs = search needs
 
 returns : tie.Need-returns
 returns c = search laws
 
 image-length-requires : tie.Need-image-length-requires
-image-length-requires c κs = search laws
+image-length-requires c κs = search needs
 
 returns-2 : tie.Need-returns-2
 returns-2 c = search laws

@@ -6,10 +6,10 @@ use Rattle.builder.proofs.check.verdict.Tie as tie
 ruleset laws = (needs, lines-few, verdict-lines, verdict-lengths, verdict-size, verdict-accepted)
 
 lines-right-requires : tie.Need-lines-right-requires
-lines-right-requires c κs = search laws
+lines-right-requires c κs = search needs
 
 refused-requires : tie.Need-refused-requires
-refused-requires c κs = search laws
+refused-requires c κs = search needs
 
 returns : tie.Need-returns
 returns c = search laws
@@ -18,7 +18,7 @@ lengths-right-requires : tie.Need-lengths-right-requires
 lengths-right-requires c κs = search laws
 
 refused-requires-2 : tie.Need-refused-requires-2
-refused-requires-2 c κs = search laws
+refused-requires-2 c κs = search needs
 
 returns-2 : tie.Need-returns-2
 returns-2 c = search laws
@@ -27,7 +27,7 @@ image-length-requires : tie.Need-image-length-requires
 image-length-requires c κs = search laws
 
 refused-requires-3 : tie.Need-refused-requires-3
-refused-requires-3 c κs = search laws
+refused-requires-3 c κs = search needs
 
 returns-3 : tie.Need-returns-3
 returns-3 c = search laws

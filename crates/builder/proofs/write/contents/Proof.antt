@@ -1,4 +1,5 @@
 use Prim.Native.Nat.{_-_}
+use lib.ListN.{length}
 use borrow.Author.Needs.{needs}
 use Rattle.builder.specs.WriteLaws.{Writing, body-within, kind-fits, length-fits, start-fits, writing-first, writing-more, writing-end}
 use Rattle.builder.proofs.write.contents.Statement.{statement}
@@ -7,10 +8,10 @@ use Rattle.builder.proofs.write.contents.Tie as tie
 ruleset laws = (needs, body-within, kind-fits, length-fits, start-fits, writing-first, writing-more, writing-end)
 
 abbrev Inv-loop : tie.InvT-loop
-Inv-loop bodies image₀ table first start₀ i₀ image start i = Writing table bodies image₀ start i image
+Inv-loop kinds lengths bodies image₀ first start₀ i₀ image start i = Writing kinds lengths bodies image₀ start i image
 
 abbrev μ-loop : tie.MeasureT-loop
-μ-loop bodies image₀ table first start₀ i₀ image start i = table .count - i
+μ-loop kinds lengths bodies image₀ first start₀ i₀ image start i = length kinds - i
 
 line-place-requires : tie.Need-line-place-requires Inv-loop μ-loop
 line-place-requires c κs = search laws
@@ -21,8 +22,8 @@ loop-holds c = search laws
 mul-length : tie.Need-mul-length Inv-loop μ-loop
 mul-length c = search laws
 
-element-copy-out-length : tie.Need-element-copy-out-length Inv-loop μ-loop
-element-copy-out-length c = search laws
+shared-slice-read-length : tie.Need-shared-slice-read-length Inv-loop μ-loop
+shared-slice-read-length c = search laws
 
 body-sum-requires : tie.Need-body-sum-requires Inv-loop μ-loop
 body-sum-requires c κs = search laws
@@ -33,8 +34,8 @@ line-place-requires-2 c κs = search laws
 mul-line : tie.Need-mul-line Inv-loop μ-loop
 mul-line c = search laws
 
-element-copy-out-line : tie.Need-element-copy-out-line Inv-loop μ-loop
-element-copy-out-line c = search laws
+shared-slice-read-line : tie.Need-shared-slice-read-line Inv-loop μ-loop
+shared-slice-read-line c = search laws
 
 cast-line : tie.Need-cast-line Inv-loop μ-loop
 cast-line c = search laws
@@ -78,11 +79,11 @@ contents-spec =
     line-place-requires
     loop-holds
     mul-length
-    element-copy-out-length
+    shared-slice-read-length
     body-sum-requires
     line-place-requires-2
     mul-line
-    element-copy-out-line
+    shared-slice-read-line
     cast-line
     add-line
     cast-line-2

@@ -3,6 +3,8 @@ use Rattle.builder.specs.WriteLaws.{image-written}
 use Rattle.builder.proofs.write.image.Statement.{statement}
 use Rattle.builder.proofs.write.image.Tie as tie
 
+ruleset laws = (needs, image-written)
+
 cast-start : tie.Need-cast-start
 cast-start c = search needs
 
@@ -25,7 +27,7 @@ same-length : tie.Need-same-length
 same-length c = search needs
 
 returns : tie.Need-returns
-returns c = search image-written
+returns c = search laws
 
 pub image-spec : {M : Type 1} → statement M
 image-spec =

@@ -1,0 +1,21 @@
+use borrow.Author.Needs.{needs}
+use Rattle.refusals.specs.RefusalsLaws.{settled-fills}
+use Rattle.builder.proofs.build_from_numbers.Statement.{statement}
+use Rattle.builder.proofs.build_from_numbers.Tie as tie
+
+ruleset laws = (needs, settled-fills)
+
+begun-requires : tie.Need-begun-requires
+begun-requires c κs = search needs
+
+settled-requires : tie.Need-settled-requires
+settled-requires c κs = search needs
+
+same-length : tie.Need-same-length
+same-length c = search needs
+
+returns : tie.Need-returns
+returns c = search laws
+
+pub build-from-numbers-spec : {M : Type 1} → statement M
+build-from-numbers-spec = tie.close (tie.spec begun-requires settled-requires same-length returns)

@@ -1,0 +1,103 @@
+-- The lines that two lists of numbers give: their number, kinds and lengths, and the lines from line i on.
+use mathlib.Core.Path.{_≡_, refl, ap}
+use mathlib.Core.List.{List, [], _∷_, _++_}
+use Prim.Native.Nat.{ℕ, zero, suc, _+_, _≤_, _<_}
+use native.Mathlib.Numerals.{add-one}
+use native.Mathlib.Omega.{arith}
+use borrow.Author.Tests.{eq-eqb, ne-eqb, eqb-true, eqb-false}
+use lib.Dec.{eqb}
+use lib.ListN.{length, drop, getD, length-append, drop-of-length-le}
+use lib.Seq.{drop-cons}
+use Rattle.laws.specs.Cases.{split, decide}
+use Rattle.laws.specs.Sums.{total}
+use Rattle.refusals.specs.Refusals.{refusal, refused}
+use Rattle.builder.specs.declared.Line.{Line}
+use Rattle.builder.specs.Build.{lengthsTotal, buildVerdict, buildImage}
+use Rattle.builder.specs.Lines.{paired, linesGiven, noLine}
+
+pub given-uneven : (kinds lengths : List ℕ) → (length kinds ≡ length lengths → ⊥) → linesGiven kinds lengths ≡ []
+unfolding linesGiven
+given-uneven kinds lengths n = rw (ne-eqb (length kinds) (length lengths) n)
+
+-- So lists that are not equally many are refused 18, whatever the bodies and the buffer.
+pub uneven-refused : (kinds lengths : List ℕ) (size : ℕ) (bodies : List ℕ) → (length kinds ≡ length lengths → ⊥)
+    → buildImage size (linesGiven kinds lengths) bodies ≡ refused (refusal 18 0)
+unfolding buildImage buildVerdict
+uneven-refused kinds lengths size bodies n = rw (given-uneven kinds lengths n)
+
+-- ---- equally many
+
+given-paired : (kinds lengths : List ℕ) → length kinds ≡ length lengths → linesGiven kinds lengths ≡ paired kinds lengths
+unfolding linesGiven
+given-paired kinds lengths e = rw (eq-eqb (length kinds) (length lengths) e)
+
+paired-counted : (kinds lengths : List ℕ) → length kinds ≡ length lengths → length (paired kinds lengths) ≡ length kinds
+unfolding paired
+paired-counted [] lengths e = refl
+paired-counted (k ∷ kinds) [] e = absurd (omega arith)
+paired-counted (k ∷ kinds) (l ∷ lengths) e = ap suc (paired-counted kinds lengths (omega arith))
+
+paired-total : (kinds lengths : List ℕ) → length kinds ≡ length lengths → lengthsTotal (paired kinds lengths) ≡ total lengths
+unfolding paired lengthsTotal total
+paired-total [] [] e = refl
+paired-total [] (l ∷ lengths) e = absurd (omega arith)
+paired-total (k ∷ kinds) [] e = absurd (omega arith)
+paired-total (k ∷ kinds) (l ∷ lengths) e = ap (λ n. l + n) (paired-total kinds lengths (omega arith))
+
+paired-kind : (kinds lengths : List ℕ) (i : ℕ) → length kinds ≡ length lengths → getD (paired kinds lengths) i noLine .kind ≡ getD kinds i 0
+unfolding paired
+paired-kind [] lengths i e = refl
+paired-kind (k ∷ kinds) [] i e = absurd (omega arith)
+paired-kind (k ∷ kinds) (l ∷ lengths) zero e = refl
+paired-kind (k ∷ kinds) (l ∷ lengths) (suc i) e = paired-kind kinds lengths i (omega arith)
+
+paired-append : (kinds lengths : List ℕ) (line : Line) → length kinds ≡ length lengths
+    → paired (kinds ++ line .kind ∷ []) (lengths ++ line .length ∷ []) ≡ paired kinds lengths ++ line ∷ []
+unfolding paired
+paired-append [] [] line e = refl
+paired-append [] (l ∷ lengths) line e = absurd (omega arith)
+paired-append (k ∷ kinds) [] line e = absurd (omega arith)
+paired-append (k ∷ kinds) (l ∷ lengths) line e = rw (paired-append kinds lengths line (omega arith))
+
+module _ (kinds lengths : List ℕ) where
+  pub given-some : 1 ≤ length (linesGiven kinds lengths) → length kinds ≡ length lengths
+  given-some h =
+      decide (eqb (length kinds) (length lengths))
+      (λ t. eqb-true (length kinds) (length lengths) t)
+      (λ t. absurd (let none = ap length (given-uneven kinds lengths (eqb-false (length kinds) (length lengths) t)) in omega arith))
+
+  pub given-at-most : length (linesGiven kinds lengths) ≤ length kinds
+  given-at-most = split 1 (length (linesGiven kinds lengths)) (λ h. let e = given-some h in rw (given-paired kinds lengths e) (omega (arith, paired-counted kinds lengths e))) (λ h. omega arith)
+
+  module _ (e : length kinds ≡ length lengths) where
+    pub given-counted : length (linesGiven kinds lengths) ≡ length kinds
+    given-counted = rw (given-paired kinds lengths e) (paired-counted kinds lengths e)
+
+    pub given-total : lengthsTotal (linesGiven kinds lengths) ≡ total lengths
+    given-total = rw (given-paired kinds lengths e) (paired-total kinds lengths e)
+
+    pub given-append : (line : Line) → linesGiven (kinds ++ line .kind ∷ []) (lengths ++ line .length ∷ []) ≡ linesGiven kinds lengths ++ line ∷ []
+    given-append line =
+        let longer : length (kinds ++ line .kind ∷ []) ≡ length (lengths ++ line .length ∷ []) = omega (arith, length-append kinds (line .kind ∷ []), length-append lengths (line .length ∷ [])) in
+        rw (given-paired kinds lengths e, given-paired (kinds ++ line .kind ∷ []) (lengths ++ line .length ∷ []) longer) (paired-append kinds lengths line e)
+
+    pub given-kind : (i : ℕ) → getD (linesGiven kinds lengths) i noLine .kind ≡ getD kinds i 0
+    given-kind i = rw (given-paired kinds lengths e) (paired-kind kinds lengths i e)
+
+-- ---- the lines from line i on
+
+abbrev pub linesFrom : (kinds lengths : List ℕ) → ℕ → List Line
+linesFrom kinds lengths i = paired (drop i kinds) (drop i lengths)
+
+module _ (kinds lengths : List ℕ) (e : length kinds ≡ length lengths) where
+  pub lines-first : linesFrom kinds lengths 0 ≡ linesGiven kinds lengths
+  lines-first = rw (given-paired kinds lengths e)
+
+  module _ (i : ℕ) where
+    pub lines-more : i < length kinds → linesFrom kinds lengths i ≡ record { kind = getD kinds i 0; length = getD lengths i 0 } ∷ linesFrom kinds lengths (i + 1)
+    unfolding paired
+    lines-more h = let k : i < length lengths = omega arith in rw (drop-cons kinds i 0 h, drop-cons lengths i 0 k, add-one i)
+
+    pub lines-end : length kinds ≤ i → linesFrom kinds lengths i ≡ []
+    unfolding paired
+    lines-end h = rw (drop-of-length-le kinds h)
