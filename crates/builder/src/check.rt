@@ -64,7 +64,7 @@ fn lengths_add_up(lengths: &[usize], whole: usize) -> bool
     left == 0
 }
 
-// Whatever the kinds.
+// What 19 asks, whatever the kinds.
 fn lengths_right(lengths: &[usize], bodies: &[u8]) -> bool
     requires { ⌜ length (now lengths) ≤ 16 ⌝ }
     ensures { λ r. ⌜ ((kinds : List ℕ) → length kinds ≡ length (now (lengths .entry)) → r ≡ lengthsRight (linesGiven kinds (now (lengths .entry))) (now (bodies .entry))) ⌝ }

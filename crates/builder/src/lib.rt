@@ -27,7 +27,7 @@ pub struct Line {
     pub length: usize,
 }
 
-// Up to 16 contents lines by value, the first `count` of what it holds; `count` is 17 where there are more.
+// Up to 16 contents lines by value: the first `count` kinds and lengths. Where there are more, `count` is 17.
 struct Table {
     kinds: [u32; 16],
     lengths: [usize; 16],
@@ -58,7 +58,7 @@ pub fn build_from_numbers(
     refusals::settled(answer, image)
 }
 
-// The builder on the lines that were gathered. Of too many none are handed on, which is refused alike.
+// The builder on gathered lines. Of more than 16 none is handed on: either is refused 18.
 fn build_table(table: Table, bodies: &[u8], image: &mut [u8]) -> Filled
     ensures { λ r. ⌜ ((lines : List Line) → Gathered table lines → Fills (buildImage (length (now (image .entry))) lines (now (bodies .entry))) (now (image .entry)) r (now (image .exit))) ⌝ }
 {

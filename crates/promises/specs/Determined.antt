@@ -22,7 +22,7 @@ pub determined : {A : Type 0} (r r′ said : A) → r ≡ said → r′ ≡ said
 determined r r′ said e f = e ∙ sym f
 
 -- Of a lent buffer, the answer and what the buffer holds:
--- hexread::read, hexwrite::write, builder::build_table, builder::build, panel::load.
+-- hexread::read, hexwrite::write, builder::build_from_numbers, builder::build, panel::load.
 module _ (outcome : Outcome) (before : List ℕ) where
   pub fills-determined : (answer answer′ : Filled) (after after′ : List ℕ) → Fills outcome before answer after → Fills outcome before answer′ after′
       → (answer ≡ answer′) × (after ≡ after′)
