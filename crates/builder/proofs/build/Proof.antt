@@ -4,7 +4,7 @@
 --     begins, counted     how many lines are looked at, and the empty table, by `few` and `empty`
 --     looped              the loop, by `takes` where a turn takes one line more, and by `leaves` where there is none left
 --     takes               line i is read out of the slice and goes through `put`; so the next state is one line further
---     leaves              `build_table` does the rest, and what it promises of the table it promises of the lines
+--     leaves              `build_table` does the rest, and promises it of the lines, since the table was gathered from them
 --     exits               what is had at the end is what the contract asks
 use mathlib.Core.Path.{_≡_, refl, sym, ap, subst}
 use Prim.Native.Nat.{ℕ, _+_, _*_, _-_, _≤_, _<_, _^_, zero-le, min}
@@ -376,7 +376,7 @@ module _ {M : Type 1} (𝓤 : URA M) (H : Heap 𝓤) (A : Atoms 𝓤) (W : Given
 
         -- what `build_table` promises of its result and of the image at exit
         abbrev Filling : State (now lines) count → Filled → List ℕ → Type 0
-        Filling s r after = (given : List Line) → Gathered (s .table) given → Fills (buildImage (length (now image)) given (now bodies)) (now image) r after
+        Filling s r after = (listed : List Line) → Gathered (s .table) listed → Fills (buildImage (length (now image)) listed (now bodies)) (now image) r after
 
         leaves : (s : State (now lines) count) → ltb (s .i) count ≡ false → Sq W (At s) (runs C Λ En mir.turn-1 (anyQ (Turned s)))
         unfolding afterTurn
