@@ -60,14 +60,19 @@ module _ (kinds lengths : List ℕ) where
     pub lines-none : length kinds < 1 → false ≡ linesRight (linesGiven kinds lengths)
     lines-none h = rw (given-counted kinds lengths e, lt-leb 1 (length kinds) h)
 
-    pub lines-many : 16 < length kinds → false ≡ linesRight (linesGiven kinds lengths)
-    lines-many h =
+    -- more than 16, or than any greater bound
+    pub lines-many : (most : ℕ) → 16 ≤ most → most < length kinds → false ≡ linesRight (linesGiven kinds lengths)
+    lines-many most g h =
         let some : 1 ≤ length kinds = omega arith in
-        rw (given-counted kinds lengths e, le-leb 1 (length kinds) some, lt-leb (length kinds) 16 h)
+        let many : 16 < length kinds = omega arith in
+        rw (given-counted kinds lengths e, le-leb 1 (length kinds) some, lt-leb (length kinds) 16 many)
 
-    pub lines-rise : (r : Bool) → 1 ≤ length kinds → length kinds ≤ 16
+    -- up to 16, or to any lower bound
+    pub lines-rise : (r : Bool) (most : ℕ) → most ≤ 16 → 1 ≤ length kinds → length kinds ≤ most
         → ((others : List ℕ) → length kinds ≡ length others → r ≡ kindsRise 0 (linesGiven kinds others)) → r ≡ linesRight (linesGiven kinds lengths)
-    lines-rise r h k rise = rw (given-counted kinds lengths e, le-leb 1 (length kinds) h, le-leb (length kinds) 16 k) (rise lengths e)
+    lines-rise r most l h k rise =
+        let few : length kinds ≤ 16 = omega arith in
+        rw (given-counted kinds lengths e, le-leb 1 (length kinds) h, le-leb (length kinds) 16 few) (rise lengths e)
 
   module _ (r : Bool) (e : r ≡ linesRight (linesGiven kinds lengths)) (t : not r ≡ false) where
     lines-even : length kinds ≡ length lengths
