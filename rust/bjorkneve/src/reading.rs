@@ -14,6 +14,7 @@ pub struct Reading {
 }
 
 /// The reading of an image at a level for the counts of both sensors.
+#[inline]
 pub fn reading(image: &[u8], level: u32, counts: Counts) -> Result<Reading, Refusal> {
     raw::reading(image, level, counts).answer()
 }
