@@ -97,15 +97,15 @@ module _ (image : List ℕ) (count i previous offset : ℕ) (right : Bool) (t : 
   unfolding linesVerdict
   lines-stop f r e = e ∙ rw (one-left count i more, ← t, not-true right f) at (j .rest)
 
-  pub lines-more : not right ≡ false → (size : ℕ) → size ≡ lengthAt image i → size < 65536
+  pub lines-more : not right ≡ false → (size : ℕ) → (size ≡ lengthAt image i) × (size < 65536)
       → Judging image count (i + 1) (getD image (linePlace i) 0) (offset + size)
   unfolding linesVerdict
-  lines-more f size l small =
+  lines-more f size l =
       record {
-        rest = rw (← byte-at image (linePlace i), l) (rw (one-left count i more, ← t, not-false right f) at (j .rest));
+        rest = rw (← byte-at image (linePlace i), l .0) (rw (one-left count i more, ← t, not-false right f) at (j .rest));
         few = j .few;
         passed = omega arith;
-        near = omega (arith, j .near);
+        near = omega (arith, j .near, l .1);
       }
 
 module _ (image : List ℕ) (count i previous offset : ℕ) (j : Judging image count i previous offset) (end : count ≤ i) where

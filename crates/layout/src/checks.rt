@@ -1,8 +1,8 @@
 ghost use mathlib.Core.Path.{_≡_};
-ghost use Prim.Native.Nat.{_+_, _≤_};
+ghost use Prim.Native.Nat.{_+_, _/_, _%_, _≤_, _<_};
 ghost use lib.ListN.{length};
 ghost use Rattle.numbers.specs.Fields.{numberAt};
-ghost use Rattle.image.specs.Layout.{lineCount, linePlace, startVerdict, countVerdict, lineRight};
+ghost use Rattle.image.specs.Layout.{lineCount, linePlace, offsetAt, lengthAt, sumAt, startVerdict, countVerdict, lineRight};
 ghost use Rattle.layout.specs.Checks.{allLines, Placed, sumRight, allSums};
 use numbers::fields;
 use numbers::slices;
@@ -42,12 +42,41 @@ pub fn count(image: &[u8]) -> Verdict
     Verdict::Accepted
 }
 
-// From here on every contents line is there: bytes are read with no test.
-fn two_bytes(image: &[u8], place: usize) -> u16
-    requires { ⌜ place + 2 ≤ length (now image) ⌝ }
-    ensures { λ r. ⌜ r ≡ numberAt 2 (now (image .entry)) place ⌝ }
+// From here on every contents line is there: bytes are read with no test, those of two numbers at once.
+fn four_bytes(image: &[u8], place: usize) -> u32
+    requires { ⌜ place + 4 ≤ length (now image) ⌝ }
+    ensures { λ r. ⌜ (r % 65536 ≡ numberAt 2 (now (image .entry)) place) × (r / 65536 ≡ numberAt 2 (now (image .entry)) (place + 2)) ⌝ }
 {
-    fields::number_of_2([image[place], image[place + 1]])
+    fields::side_by_side([
+        image[place],
+        image[place + 1],
+        image[place + 2],
+        image[place + 3],
+    ])
+}
+
+fn offset_of(image: &[u8], i: usize) -> usize
+    requires { ⌜ linePlace (i + 1) ≤ length (now image) ⌝ }
+    ensures { λ r. ⌜ r ≡ offsetAt (now (image .entry)) i ⌝ }
+{
+    let place = 2 + 8 * i;
+    (four_bytes(image, place + 2) % 65536) as usize
+}
+
+fn length_of(image: &[u8], i: usize) -> usize
+    requires { ⌜ linePlace (i + 1) ≤ length (now image) ⌝ }
+    ensures { λ r. ⌜ (r ≡ lengthAt (now (image .entry)) i) × (r < 65536) ⌝ }
+{
+    let place = 2 + 8 * i;
+    (four_bytes(image, place + 2) / 65536) as usize
+}
+
+fn sum_of(image: &[u8], i: usize) -> usize
+    requires { ⌜ linePlace (i + 1) ≤ length (now image) ⌝ }
+    ensures { λ r. ⌜ r ≡ sumAt (now (image .entry)) i ⌝ }
+{
+    let place = 2 + 8 * i;
+    (four_bytes(image, place + 4) / 65536) as usize
 }
 
 fn line_right(image: &[u8], i: usize, previous: u8, offset: usize) -> bool
@@ -61,7 +90,7 @@ fn line_right(image: &[u8], i: usize, previous: u8, offset: usize) -> bool
     if image[place + 1] != 0 {
         return false;
     }
-    two_bytes(image, place + 2) as usize == offset
+    offset_of(image, i) == offset
 }
 
 // Refusal 7.
@@ -77,9 +106,8 @@ pub fn lines(image: &[u8]) -> Verdict
         if !line_right(image, i, previous, offset) {
             return refused(7, i as u64);
         }
-        let place = 2 + 8 * i;
-        previous = image[place];
-        offset += two_bytes(image, place + 4) as usize;
+        previous = image[2 + 8 * i];
+        offset += length_of(image, i);
         i += 1;
     }
     if offset != image.len() {
@@ -93,9 +121,8 @@ fn sum_right(image: &[u8], i: usize, offset: usize, size: usize) -> bool
     requires { ⌜ (linePlace (i + 1) ≤ length (now image)) × (offset + size ≤ length (now image)) ⌝ }
     ensures { λ r. ⌜ r ≡ sumRight (now (image .entry)) i offset size ⌝ }
 {
-    let place = 2 + 8 * i;
     let body = &image[offset..offset + size];
-    slices::byte_sum(body) == two_bytes(image, place + 6)
+    slices::byte_sum(body) as usize == sum_of(image, i)
 }
 
 // Refusal 8. Where each body starts is not read again: the lines are right, so it is where the one before ends.
@@ -107,8 +134,7 @@ pub fn sums(image: &[u8]) -> Verdict
     let mut i = 0;
     let mut offset = 2 + 8 * count;
     while i < count {
-        let place = 2 + 8 * i;
-        let size = two_bytes(image, place + 4) as usize;
+        let size = length_of(image, i);
         if !sum_right(image, i, offset, size) {
             return refused(8, i as u64);
         }

@@ -1,7 +1,7 @@
 // No byte is tested for: in a good layout the lines and their bodies are there.
 use refusals::Verdict;
 ghost use mathlib.Core.Path.{_≡_};
-ghost use Prim.Native.Nat.{_+_, _≤_, _<_};
+ghost use Prim.Native.Nat.{_+_, _/_, _%_, _≤_, _<_};
 ghost use lib.ListN.{length};
 ghost use Rattle.numbers.specs.Fields.{numberAt};
 ghost use Rattle.image.specs.Layout.{lineCount, kindAt, bodyAt, layoutVerdict};
@@ -16,11 +16,16 @@ fn byte(image: &[u8], place: usize) -> u8
     image[place]
 }
 
-fn two_bytes(image: &[u8], place: usize) -> usize
-    requires { ⌜ place + 2 ≤ length (now image) ⌝ }
-    ensures { λ r. ⌜ r ≡ numberAt 2 (now (image .entry)) place ⌝ }
+fn four_bytes(image: &[u8], place: usize) -> u32
+    requires { ⌜ place + 4 ≤ length (now image) ⌝ }
+    ensures { λ r. ⌜ (r % 65536 ≡ numberAt 2 (now (image .entry)) place) × (r / 65536 ≡ numberAt 2 (now (image .entry)) (place + 2)) ⌝ }
 {
-    numbers::fields::number_of_2([image[place], image[place + 1]]) as usize
+    numbers::fields::side_by_side([
+        image[place],
+        image[place + 1],
+        image[place + 2],
+        image[place + 3],
+    ])
 }
 
 pub fn count(image: &[u8]) -> usize
@@ -42,8 +47,9 @@ pub fn body(image: &[u8], line: usize) -> &[u8]
     ensures { λ r. ⌜ now r ≡ bodyAt (now (image .entry)) line ⌝ }
 {
     let place = 2 + 8 * line;
-    let offset = two_bytes(image, place + 2);
-    let length = two_bytes(image, place + 4);
+    let both = four_bytes(image, place + 2);
+    let offset = (both % 65536) as usize;
+    let length = (both / 65536) as usize;
     &image[offset..offset + length]
 }
 

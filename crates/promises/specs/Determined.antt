@@ -1,7 +1,8 @@
 -- Contracts determine: any two results that a public function's contract allows for one input are equal, and one is always allowed.
 use mathlib.Core.List.{List}
 use mathlib.Core.Path.{_≡_, refl, sym, ap, _∙_}
-use Prim.Native.Nat.{ℕ}
+use Prim.Native.Nat.{ℕ, _/_, _%_}
+use native.Mathlib.Omega.{arith}
 use lib.IntN.{ℤ, pos, natAbs}
 use lib.ListN.{length}
 use denote.Ref.{RefT, now, ptr}
@@ -13,8 +14,8 @@ use Rattle.refusals.specs.Told.{filledTold, ToldFills}
 use Rattle.image.specs.Find.{Found}
 
 -- The one law: a contract is an equation with a definition. By it alone, every public function that is not named below:
--- whole::magnitude, outside, beyond; whole::rounding::rounded_over_2_24, rounded_over_2_28, rounded_over_2_32; numbers::fields::number1,
--- number2, number4, number8, number_of_2, signed4, signed8, signed_of_8; numbers::slices::byte_sum, clear_from (of the buffer);
+-- whole::magnitude, outside, beyond, wrapped_sum; whole::rounding::rounded_over_2_24, rounded_over_2_28, rounded_over_2_32; numbers::fields::number1,
+-- number2, number4, number8, signed4, signed8, signed_of_8; numbers::slices::byte_sum, clear_from (of the buffer);
 -- refusals::refused, tell_verdict, tell_filled; layout::layout; finder::stated, place_of, has, tell_place; sets::set_verdict, read_set, read_grid;
 -- bodies::identity_verdict, read_identity, trim_verdict, read_trim, note_verdict; reading::measured, tell_answer; panel::verdict,
 -- panel::reading; bjorkneve_layout, bjorkneve_verdict, bjorkneve_find, bjorkneve_reading.
@@ -60,3 +61,7 @@ part-determined s r r′ start count f g = (determined _ _ _ (f .holds) (g .hold
 -- One says so of its number as a whole one: whole::rounding::rounded_quotient.
 pub whole-determined : (r r′ : ℕ) (said : ℤ) → pos r ≡ said → pos r′ ≡ said → r ≡ r′
 whole-determined r r′ said e f = ap natAbs (determined (pos r) (pos r′) said e f)
+
+-- One says so of both sides of its number: numbers::fields::side_by_side.
+pub sides-determined : (r r′ first second : ℕ) → (r % 65536 ≡ first) × (r / 65536 ≡ second) → (r′ % 65536 ≡ first) × (r′ / 65536 ≡ second) → r ≡ r′
+sides-determined r r′ first second e f = omega (arith, determined _ _ _ (e .0) (f .0), determined _ _ _ (e .1) (f .1))

@@ -26,14 +26,8 @@ shared-slice-read-if2 c = search laws
 returns-2 : tie.Need-returns-2
 returns-2 c = search laws
 
-add-two-bytes : tie.Need-add-two-bytes
-add-two-bytes c = search laws
-
-two-bytes-requires : tie.Need-two-bytes-requires
-two-bytes-requires c κs = search laws
-
-cast-result : tie.Need-cast-result
-cast-result c = search laws
+offset-of-requires : tie.Need-offset-of-requires
+offset-of-requires c κs = search laws
 
 returns-3 : tie.Need-returns-3
 returns-3 c = search laws
@@ -49,7 +43,5 @@ line-right-spec =
     add-if2
     shared-slice-read-if2
     returns-2
-    add-two-bytes
-    two-bytes-requires
-    cast-result
+    offset-of-requires
     returns-3)

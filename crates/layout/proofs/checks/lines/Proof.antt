@@ -36,23 +36,17 @@ refused-requires c κs = search laws
 returns : tie.Need-returns Inv-loop μ-loop
 returns c = search laws
 
-mul-place : tie.Need-mul-place Inv-loop μ-loop
-mul-place c = search laws
+mul-previous : tie.Need-mul-previous Inv-loop μ-loop
+mul-previous c = search laws
 
-add-place : tie.Need-add-place Inv-loop μ-loop
-add-place c = search laws
+add-previous : tie.Need-add-previous Inv-loop μ-loop
+add-previous c = search laws
 
 shared-slice-read-previous : tie.Need-shared-slice-read-previous Inv-loop μ-loop
 shared-slice-read-previous c = search laws
 
-add-two-bytes : tie.Need-add-two-bytes Inv-loop μ-loop
-add-two-bytes c = search laws
-
-two-bytes-requires : tie.Need-two-bytes-requires Inv-loop μ-loop
-two-bytes-requires c κs = search laws
-
-cast-offset : tie.Need-cast-offset Inv-loop μ-loop
-cast-offset c = search laws
+length-of-requires : tie.Need-length-of-requires Inv-loop μ-loop
+length-of-requires c κs = search laws
 
 add-offset-2 : tie.Need-add-offset-2 Inv-loop μ-loop
 add-offset-2 c = search laws
@@ -64,7 +58,8 @@ loop-less : tie.Need-loop-less Inv-loop μ-loop
 loop-less c = search laws
 
 loop-again : tie.Need-loop-again Inv-loop μ-loop
-loop-again c = search laws
+loop-again c =
+    lines-more _ _ _ _ _ _ (c .before .before .before .line-right .ensures) (search needs) (search needs) (search needs) _ (c .length-of .ensures)
 
 refused-requires-2 : tie.Need-refused-requires-2 Inv-loop μ-loop
 refused-requires-2 c κs = search laws
@@ -89,12 +84,10 @@ lines-spec =
     line-right-requires
     refused-requires
     returns
-    mul-place
-    add-place
+    mul-previous
+    add-previous
     shared-slice-read-previous
-    add-two-bytes
-    two-bytes-requires
-    cast-offset
+    length-of-requires
     add-offset-2
     add-i
     loop-less

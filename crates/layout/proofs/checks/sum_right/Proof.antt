@@ -3,12 +3,6 @@ use Rattle.layout.specs.ChecksLaws.{sum-decides}
 use Rattle.layout.proofs.checks.sum_right.Statement.{statement}
 use Rattle.layout.proofs.checks.sum_right.Tie as tie
 
-mul-place : tie.Need-mul-place
-mul-place c = search needs
-
-add-place : tie.Need-add-place
-add-place c = search needs
-
 add-body : tie.Need-add-body
 add-body c = search needs
 
@@ -24,11 +18,11 @@ part-body-end c = search needs
 byte-sum-requires : tie.Need-byte-sum-requires
 byte-sum-requires c κs = search needs
 
-add-two-bytes : tie.Need-add-two-bytes
-add-two-bytes c = search needs
+cast-result : tie.Need-cast-result
+cast-result c = search needs
 
-two-bytes-requires : tie.Need-two-bytes-requires
-two-bytes-requires c κs = search needs
+sum-of-requires : tie.Need-sum-of-requires
+sum-of-requires c κs = search needs
 
 returns : tie.Need-returns
 returns c = search (needs, sum-decides)
@@ -37,13 +31,11 @@ pub sum-right-spec : {M : Type 1} → statement M
 sum-right-spec =
     tie.close
     (tie.spec
-    mul-place
-    add-place
     add-body
     sub-body
     part-body-start
     part-body-end
     byte-sum-requires
-    add-two-bytes
-    two-bytes-requires
+    cast-result
+    sum-of-requires
     returns)

@@ -27,20 +27,8 @@ add-offset c = search laws
 loop-holds : tie.Need-loop-holds Inv-loop μ-loop
 loop-holds c = search laws
 
-mul-place : tie.Need-mul-place Inv-loop μ-loop
-mul-place c = search laws
-
-add-place : tie.Need-add-place Inv-loop μ-loop
-add-place c = search laws
-
-add-two-bytes : tie.Need-add-two-bytes Inv-loop μ-loop
-add-two-bytes c = search laws
-
-two-bytes-requires : tie.Need-two-bytes-requires Inv-loop μ-loop
-two-bytes-requires c κs = search laws
-
-cast-size : tie.Need-cast-size Inv-loop μ-loop
-cast-size c = search laws
+length-of-requires : tie.Need-length-of-requires Inv-loop μ-loop
+length-of-requires c κs = search laws
 
 sum-right-requires : tie.Need-sum-right-requires Inv-loop μ-loop
 sum-right-requires c κs = search laws
@@ -77,11 +65,7 @@ sums-spec =
     mul-offset
     add-offset
     loop-holds
-    mul-place
-    add-place
-    add-two-bytes
-    two-bytes-requires
-    cast-size
+    length-of-requires
     sum-right-requires
     refused-requires
     returns
