@@ -70,6 +70,34 @@ module _ (place : ℕ) (block before : List ℕ) (i : ℕ) (image : List ℕ) (h
       let end : i ≡ length block = omega (arith, h .upto) in
       rw end at (sym (append-nil (take (place + i) image)) ∙ (rw (drop-of-length-le block k) at (h .rest)))
 
+-- i bytes more are copied than the `from` that `first` has
+pub record CopyingOn (place : ℕ) (block first : List ℕ) (from i : ℕ) (image : List ℕ) : Type 0 where
+  pub on : (before : List ℕ) → Copying place block before from first → from + i ≤ length block → Copying place block before (from + i) image
+  pub long : length image ≡ length first
+
+pub copying-on-first : (place : ℕ) (block first : List ℕ) (from : ℕ) → CopyingOn place block first from 0 first
+copying-on-first place block first from = record { on = λ before h k. rw (add-zero from) h; long = refl }
+
+pub copying-on-more : (place : ℕ) (block first : List ℕ) (from i : ℕ) (image : List ℕ) → CopyingOn place block first from i image
+    → place + length block ≤ length first → CopyingOn place block first from (i + 1) (set image (place + from + i) (getD block (from + i) 0))
+copying-on-more place block first from i image c fits =
+    record {
+      on = λ (before : List ℕ) (h : Copying place block before from first) (k : from + (i + 1) ≤ length block).
+          let next : from + (i + 1) ≡ from + i + 1 = omega arith in
+          let there : place + from + i ≡ place + (from + i) = omega arith in
+          let sofar = c .on before h (omega arith) in
+          rw (next, there) (copying-more place block before (from + i) image sofar (omega (arith, h .long)) (omega arith));
+      long = length-set image (place + from + i) (getD block (from + i) 0) ∙ c .long;
+    }
+
+pub copying-on-end : (place : ℕ) (block first : List ℕ) (from i count : ℕ) (image : List ℕ) → CopyingOn place block first from i image → i ≤ count → count ≤ i
+    → CopyingOn place block first from count image
+copying-on-end place block first from i count image c h k = let e : i ≡ count = omega arith in rw (← e) c
+
+pub copied-on : (place : ℕ) (block before first : List ℕ) (from count : ℕ) (image : List ℕ) → Copying place block before from first → CopyingOn place block first from count image
+    → from + count ≤ length block → Copying place block before (from + count) image
+copied-on place block before first from count image h c k = c .on before h k
+
 -- ---- the contents lines
 
 pub kind-fits : (kinds lengths bodies : List ℕ) (size i : ℕ) → Buildable kinds lengths bodies size → Fits w8 (getD kinds i 0)

@@ -10,6 +10,7 @@ ghost use Rattle.image.specs.Sections.{contentsLine, contentsFrom, imageOf};
 ghost use Rattle.builder.specs.Build.{sectionsOf};
 ghost use Rattle.builder.specs.Lines.{linesGiven};
 ghost use Rattle.builder.specs.CheckLaws.{Buildable};
+ghost use Rattle.builder.specs.WriteLaws.{CopyingOn};
 use crate::place;
 use numbers::slices;
 use refusals::Filled;
@@ -62,16 +63,29 @@ fn contents(kinds: &[u32], lengths: &[usize], bodies: &[u8], image: &mut [u8])
     }
 }
 
-// The bodies as one block, from `place` on.
+// Copies `count` bytes more of the bodies, of which the image has those before `from`, from `place` on.
+fn copy_on(image: &mut [u8], place: usize, bodies: &[u8], from: usize, count: usize)
+    requires { ⌜ (place + length (now bodies) ≤ length (now image)) × (from + count ≤ length (now bodies)) ⌝ }
+    ensures { λ _. ⌜ CopyingOn place (now (bodies .entry)) (now (image .entry)) from count (now (image .exit)) ⌝ }
+{
+    let mut i: usize = 0;
+    while i < count {
+        image[place + from + i] = bodies[from + i];
+        i += 1;
+    }
+}
+
+// The bodies as one block, from `place` on: 128 bytes at a time, which the compiler moves together.
 fn block(image: &mut [u8], place: usize, bodies: &[u8])
     requires { ⌜ place + length (now bodies) ≤ length (now image) ⌝ }
     ensures { λ _. ⌜ take (place + length (now (bodies .entry))) (now (image .exit)) ≡ take place (now (image .entry)) ++ now (bodies .entry) ⌝ }
 {
     let mut i: usize = 0;
-    while i < bodies.len() {
-        image[place + i] = bodies[i];
-        i += 1;
+    while 128 <= bodies.len() - i {
+        copy_on(image, place, bodies, i, 128);
+        i += 128;
     }
+    copy_on(image, place, bodies, i, bodies.len() - i);
 }
 
 // The image's first two bytes.

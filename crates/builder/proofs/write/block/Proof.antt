@@ -1,11 +1,11 @@
 use Prim.Native.Nat.{_-_}
 use borrow.Author.Needs.{needs}
 use lib.ListN.{length}
-use Rattle.builder.specs.WriteLaws.{Copying, copying-first, copying-more, copying-end}
+use Rattle.builder.specs.WriteLaws.{Copying, copying-first, copied-on, copying-end}
 use Rattle.builder.proofs.write.block.Statement.{statement}
 use Rattle.builder.proofs.write.block.Tie as tie
 
-ruleset laws = (needs, copying-first, copying-more, copying-end)
+ruleset laws = (needs, copying-first, copied-on, copying-end)
 
 abbrev Inv-loop : tie.InvT-loop
 Inv-loop image₀ place bodies i₀ image i = Copying place bodies image₀ i image
@@ -16,14 +16,11 @@ abbrev μ-loop : tie.MeasureT-loop
 loop-holds : tie.Need-loop-holds Inv-loop μ-loop
 loop-holds c = search laws
 
-shared-slice-read-image : tie.Need-shared-slice-read-image Inv-loop μ-loop
-shared-slice-read-image c = search laws
+sub-loop : tie.Need-sub-loop Inv-loop μ-loop
+sub-loop c = search laws
 
-add-image : tie.Need-add-image Inv-loop μ-loop
-add-image c = search laws
-
-slice-write-image : tie.Need-slice-write-image Inv-loop μ-loop
-slice-write-image c = search laws
+copy-on-requires : tie.Need-copy-on-requires Inv-loop μ-loop
+copy-on-requires c κs = search laws
 
 add-i : tie.Need-add-i Inv-loop μ-loop
 add-i c = search laws
@@ -32,13 +29,19 @@ loop-less : tie.Need-loop-less Inv-loop μ-loop
 loop-less c = search laws
 
 loop-again : tie.Need-loop-again Inv-loop μ-loop
-loop-again c = search laws
+loop-again c = copied-on _ _ _ _ _ _ _ (search needs) (c .before .before .copy-on .ensures) (search needs)
+
+sub-copy-on : tie.Need-sub-copy-on Inv-loop μ-loop
+sub-copy-on c = search laws
+
+copy-on-requires-2 : tie.Need-copy-on-requires-2 Inv-loop μ-loop
+copy-on-requires-2 c κs = search laws
 
 same-length : tie.Need-same-length Inv-loop μ-loop
 same-length c = search laws
 
 returns : tie.Need-returns Inv-loop μ-loop
-returns c = search laws
+returns c = copying-end _ _ _ _ _ (copied-on _ _ _ _ _ _ _ (search needs) (c .before .before .copy-on2 .ensures) (search needs)) (search needs)
 
 pub block-spec : {M : Type 1} → statement M
 block-spec =
@@ -47,11 +50,12 @@ block-spec =
     Inv-loop
     μ-loop
     loop-holds
-    shared-slice-read-image
-    add-image
-    slice-write-image
+    sub-loop
+    copy-on-requires
     add-i
     loop-less
     loop-again
+    sub-copy-on
+    copy-on-requires-2
     same-length
     returns)
