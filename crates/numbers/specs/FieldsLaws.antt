@@ -1,4 +1,4 @@
--- Laws of numbers among bytes: a number of two halves, a byte, nothing past the end, a number of its own bytes, a bound, a sign.
+-- Laws of numbers among bytes: a number of two halves, a byte, nothing past the end, two numbers side by side, a number of its own bytes, a bound, a sign.
 use mathlib.Core.Path.{_≡_, refl, sym, _∙_}
 use mathlib.Core.List.{List, [], _∷_}
 use Prim.Native.Nat.{ℕ, zero, suc, _+_, _-_, _*_, _/_, _%_, _^_, _≤_, _<_}
@@ -102,8 +102,8 @@ unfolding numberAt littleEndian
 spelled-alike zero l place = refl
 spelled-alike (suc w) l place = rw (spelled-from w l place 1) (by-low-byte w l place)
 
-pub number-of-bytes : (w : ℕ) (l : List ℕ) (place : ℕ) {r : ℕ} → r ≡ numberAt w (bytesAt w l place) 0 → r ≡ numberAt w l place
-number-of-bytes w l place e = e ∙ spelled-alike w l place
+pub signed-of-bytes : (w : ℕ) (l : List ℕ) (place : ℕ) {r : ℤ} → r ≡ signedAt w (bytesAt w l place) 0 → r ≡ signedAt w l place
+signed-of-bytes w l place e = rw (spelled-alike w l place) at e
 
 -- so of two numbers side by side
 pub sides-of-bytes : (l : List ℕ) (place r : ℕ) → (r % 65536 ≡ numberAt 2 (bytesAt 4 l place) 0) × (r / 65536 ≡ numberAt 2 (bytesAt 4 l place) 2)
@@ -117,9 +117,6 @@ sides-of-bytes l place r e =
 -- the second of two numbers side by side, by its own place
 pub side-after : (l : List ℕ) (place own r : ℕ) → (r % 65536 ≡ numberAt 2 l place) × (r / 65536 ≡ numberAt 2 l (place + 2)) → place + 2 ≡ own → r / 65536 ≡ numberAt 2 l own
 side-after l place own r e next = rw (← next) (e .1)
-
-pub signed-of-bytes : (w : ℕ) (l : List ℕ) (place : ℕ) {r : ℤ} → r ≡ signedAt w (bytesAt w l place) 0 → r ≡ signedAt w l place
-signed-of-bytes w l place e = rw (spelled-alike w l place) at e
 
 spelled-small : (w : ℕ) (l : List ℕ) → Bytes l → littleEndian (take w l) < 256 ^ w
 unfolding littleEndian

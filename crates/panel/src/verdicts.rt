@@ -119,7 +119,7 @@ pub fn verdict(image: &[u8], level: u32) -> Verdict
     let Verdict::Accepted = known else {
         return known;
     };
-    // taken anew: a slice that is only handed on is copied as one, and the next load waits for it
+    // taken anew: handed on as it came, it would be copied in one piece, for which a processor waits
     let laid = layout::layout(&image[..]);
     let Verdict::Accepted = laid else {
         return laid;
