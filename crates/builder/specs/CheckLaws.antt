@@ -1,5 +1,5 @@
 -- The builder's checks on two lists of numbers: what their loops keep, the verdict by their outcomes, and what accepted lists keep to.
-use mathlib.Core.Path.{_≡_, sym, _∙_}
+use mathlib.Core.Path.{_≡_, refl, sym, _∙_}
 use mathlib.Core.Bool.{Bool, true, false, not, _&&_}
 use mathlib.Core.List.{List}
 use Prim.Native.Nat.{ℕ, _+_, _-_, _≤_, _<_}
@@ -7,7 +7,7 @@ use native.Mathlib.Omega.{arith}
 use borrow.Author.Tests.{lt-ltb, le-ltb, le-leb, lt-leb, eq-eqb, ne-eqb, eqb-true, eqb-false, leb-true, not-true, not-false}
 use lib.Dec.{leb, ltb, eqb}
 use lib.ListN.{length, drop, getD}
-use Rattle.laws.specs.Cases.{decide, both-left, both-right}
+use Rattle.laws.specs.Cases.{split, decide, both-left, both-right}
 use Rattle.laws.specs.Sums.{total, total-more, total-end}
 use Rattle.refusals.specs.declared.Verdict.{Verdict}
 use Rattle.refusals.specs.declared.Verdict.the-variants.{Accepted, Refused}
@@ -20,37 +20,41 @@ use Rattle.builder.specs.GivenLaws.{given-uneven, given-some, given-coun
 
 -- ---- 18
 
--- the kinds up to line i rise to `previous`, whatever the lengths
+-- the kinds up to line i rise to `previous`, whatever the lengths: it and those left decide
 pub record Rising (kinds : List ℕ) (previous i : ℕ) : Type 0 where
-  pub rest : (lengths : List ℕ) → length kinds ≡ length lengths → kindsRise previous (linesFrom kinds lengths i) ≡ kindsRise 0 (linesGiven kinds lengths)
+  pub rest : (lengths : List ℕ) → length kinds ≡ length lengths → leb previous 255 && kindsRise previous (linesFrom kinds lengths i) ≡ kindsRise 0 (linesGiven kinds lengths)
 
 pub rising-first : (kinds : List ℕ) → Rising kinds 0 0
 rising-first kinds = record { rest = λ lengths e. rw (lines-first kinds lengths e) }
 
+-- where the greater of two is at most 255, so is the other
+greater-decides : (a b : ℕ) (rest : Bool) → a < b → leb a 255 && (leb b 255 && rest) ≡ leb b 255 && rest
+greater-decides a b rest h =
+    split b 255
+    (λ (k : b ≤ 255). let l : a ≤ 255 = omega arith in rw (le-leb a 255 l))
+    (λ (k : 255 < b). rw (lt-leb b 255 k) (never-both (leb a 255)))
+  where
+    never-both : (t : Bool) → t && false ≡ false
+    never-both true = refl
+    never-both false = refl
+
 module _ (kinds : List ℕ) (previous i : ℕ) (h : Rising kinds previous i) where
   module _ (k : i < length kinds) where
     step : (lengths : List ℕ) → length kinds ≡ length lengths
-        → ltb previous (getD kinds i 0) && (leb (getD kinds i 0) 255 && kindsRise (getD kinds i 0) (linesFrom kinds lengths (i + 1))) ≡ kindsRise 0 (linesGiven kinds lengths)
+        → leb previous 255 && (ltb previous (getD kinds i 0) && (leb (getD kinds i 0) 255 && kindsRise (getD kinds i 0) (linesFrom kinds lengths (i + 1)))) ≡ kindsRise 0 (linesGiven kinds lengths)
     unfolding kindsRise
     step lengths e = rw (lines-more kinds lengths e i k) at (h .rest lengths e)
 
-    pub rising-more : previous < getD kinds i 0 → getD kinds i 0 ≤ 255 → Rising kinds (getD kinds i 0) (i + 1)
-    rising-more l m = record { rest = λ lengths e. rw (lt-ltb previous _ l, le-leb _ 255 m) at (step lengths e) }
+    pub rising-more : previous < getD kinds i 0 → Rising kinds (getD kinds i 0) (i + 1)
+    rising-more l =
+        record { rest = λ lengths e. sym (greater-decides previous (getD kinds i 0) _ l) ∙ (rw (lt-ltb previous _ l) at (step lengths e)) }
 
     pub rising-low : getD kinds i 0 ≤ previous → (lengths : List ℕ) → length kinds ≡ length lengths → false ≡ kindsRise 0 (linesGiven kinds lengths)
-    rising-low l lengths e = rw (le-ltb previous _ l) at (step lengths e)
+    rising-low l lengths e = decide (leb previous 255) (λ t. rw (t, le-ltb previous _ l) at (step lengths e)) (λ t. rw t at (step lengths e))
 
-    -- above 255, or above any greater bound
-    pub rising-high : (most : ℕ) → 255 ≤ most → most < getD kinds i 0 → (lengths : List ℕ) → length kinds ≡ length lengths → false ≡ kindsRise 0 (linesGiven kinds lengths)
-    rising-high most g m lengths e =
-        let above : 255 < getD kinds i 0 = omega arith in
-        decide (ltb previous (getD kinds i 0))
-        (λ l. rw (l, lt-leb _ 255 above) at (step lengths e))
-        (λ l. rw l at (step lengths e))
-
-  pub rising-end : length kinds ≤ i → (lengths : List ℕ) → length kinds ≡ length lengths → true ≡ kindsRise 0 (linesGiven kinds lengths)
+  pub rising-end : length kinds ≤ i → (lengths : List ℕ) → length kinds ≡ length lengths → leb previous 255 ≡ kindsRise 0 (linesGiven kinds lengths)
   unfolding kindsRise
-  rising-end k lengths e = rw (lines-end kinds lengths e i k) at (h .rest lengths e)
+  rising-end k lengths e = decide (leb previous 255) (λ t. t ∙ (rw (lines-end kinds lengths e i k, t) at (h .rest lengths e))) (λ t. t ∙ (rw (t) at (h .rest lengths e)))
 
 module _ (kinds lengths : List ℕ) where
   pub lines-uneven : (length kinds ≡ length lengths → ⊥) → false ≡ linesRight (linesGiven kinds lengths)

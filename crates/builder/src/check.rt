@@ -23,13 +23,11 @@ fn kinds_rise(kinds: &[u32]) -> bool
         if kind <= previous {
             return false;
         }
-        if 255 < kind {
-            return false;
-        }
         previous = kind;
         i += 1;
     }
-    true
+    // the last is the highest
+    previous <= 255
 }
 
 fn lines_right(kinds: &[u32], lengths: &[usize]) -> bool

@@ -1,11 +1,11 @@
 use Prim.Native.Nat.{_-_}
 use lib.ListN.{length}
 use borrow.Author.Needs.{needs}
-use Rattle.builder.specs.CheckLaws.{Rising, rising-first, rising-more, rising-low, rising-high, rising-end}
+use Rattle.builder.specs.CheckLaws.{Rising, rising-first, rising-more, rising-low, rising-end}
 use Rattle.builder.proofs.check.kinds_rise.Statement.{statement}
 use Rattle.builder.proofs.check.kinds_rise.Tie as tie
 
-ruleset laws = (needs, rising-first, rising-more, rising-low, rising-high, rising-end)
+ruleset laws = (needs, rising-first, rising-more, rising-low, rising-end)
 
 abbrev Inv-loop : tie.InvT-loop
 Inv-loop kinds previous₀ i₀ previous i = Rising kinds previous i
@@ -25,9 +25,6 @@ shared-slice-read-kind c = search laws
 returns : tie.Need-returns Inv-loop μ-loop
 returns c = search laws
 
-returns-2 : tie.Need-returns-2 Inv-loop μ-loop
-returns-2 c = search laws
-
 add-i : tie.Need-add-i Inv-loop μ-loop
 add-i c = search laws
 
@@ -37,8 +34,8 @@ loop-less c = search laws
 loop-again : tie.Need-loop-again Inv-loop μ-loop
 loop-again c = search laws
 
-returns-3 : tie.Need-returns-3 Inv-loop μ-loop
-returns-3 c = search laws
+returns-2 : tie.Need-returns-2 Inv-loop μ-loop
+returns-2 c = search laws
 
 pub kinds-rise-spec : {M : Type 1} → statement M
 kinds-rise-spec =
@@ -50,8 +47,7 @@ kinds-rise-spec =
     mul-kind
     shared-slice-read-kind
     returns
-    returns-2
     add-i
     loop-less
     loop-again
-    returns-3)
+    returns-2)
