@@ -84,7 +84,7 @@ fn from_pressure_frequency(
     }
 }
 
-// What the counts come to, by what the bodies say: of the sets, which are read when they are needed, the bodies themselves.
+// What the counts come to. Each set comes as its body, and is read when its turn comes.
 pub fn measured(
     counts: Counts,
     identity: Identity,

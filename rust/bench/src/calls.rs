@@ -1,5 +1,5 @@
-//! The measured calls. Inputs and answers pass through `opaque`, so that no
-//! call can be worked out beforehand or left out.
+//! The measured calls. Inputs pass through `opaque`, so that no call is worked out
+//! beforehand; each answer is looked at, so that none is left out.
 
 use crate::inputs::Inputs;
 use crate::{ours, theirs};
