@@ -1,6 +1,6 @@
 -- The characters of numbers below 16, the table of them, and bytes written.
 use mathlib.Core.Path.{_≡_, refl, _∙_}
-use mathlib.Core.List.{List, [], _∷_}
+use mathlib.Core.List.{List, [], _∷_, _++_}
 use Prim.Native.Nat.{ℕ, _+_, _*_, _/_, _%_, _≤_, _<_}
 use native.Mathlib.Omega.{arith}
 use native.Mathlib.Numerals.{add-one}
@@ -8,9 +8,9 @@ use borrow.Author.Tests.{lt-ltb, le-ltb}
 use borrow.Author.Count.{below-more}
 use lib.ListN.{length, take, getD, set, length-set, length-take}
 use lib.Seq.{getD-set-same, getD-set-other, take-suc, take-all}
+use Rattle.laws.specs.Wrote.{Wrote, wrote-nothing, wrote-character, wrote-then}
 use Rattle.hextext.specs.Written.{hexDigit, spell}
 use Rattle.hextext.specs.WrittenLaws.{length-spell}
-use Rattle.hexwrite.specs.WroteLaws.{Wrote, wrote-nothing, wrote-character, wrote-then, spell-append}
 
 -- ---- a digit
 
@@ -59,6 +59,11 @@ module _ (at b : ℕ) (d : List ℕ) (h : at + 1 < length d) where
   wrote-byte t s k = wrote-pair (getD t (b / 16) 0) (getD t (b % 16) 0) (s .below (b / 16) (omega arith)) (s .below (b % 16) (omega arith))
 
 -- ---- the characters of bytes in a row
+
+pub spell-append : (l m : List ℕ) → spell (l ++ m) ≡ spell l ++ spell m
+unfolding spell
+spell-append [] m = refl
+spell-append (b ∷ l) m = rw (spell-append l m)
 
 -- the first i of them are written
 pub record WritingBytes (at : ℕ) (x d₀ d : List ℕ) (i : ℕ) : Type 0 where

@@ -1,4 +1,3 @@
-pub mod WroteLaws
 pub mod DigitsLaws
 pub mod RecordLaws
 pub mod TextLaws

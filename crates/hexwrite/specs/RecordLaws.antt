@@ -6,9 +6,10 @@ use native.Mathlib.Nat.{add-mod}
 use native.Mathlib.Omega.{arith}
 use lib.ListN.{length, length-append}
 use Rattle.laws.specs.Sums.{total, total-append}
+use Rattle.laws.specs.Wrote.{Wrote, wrote-then}
 use Rattle.hextext.specs.Written.{spell, checksum, headAndData, recordText}
 use Rattle.hextext.specs.WrittenLaws.{length-spell}
-use Rattle.hexwrite.specs.WroteLaws.{Wrote, wrote-then, spell-append}
+use Rattle.hexwrite.specs.DigitsLaws.{spell-append}
 
 -- ---- the checksum
 

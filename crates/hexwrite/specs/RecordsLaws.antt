@@ -13,7 +13,7 @@ use Rattle.refusals.specs.Refusals.{refusal}
 use Rattle.refusals.specs.RefusalsLaws.{Begins}
 use Rattle.hextext.specs.Written.{recordText, textOf, textLength, writeImage}
 use Rattle.hextext.specs.WrittenLaws.{length-recordText, length-textOf}
-use Rattle.hexwrite.specs.WroteLaws.{Wrote}
+use Rattle.laws.specs.Wrote.{Wrote}
 use Rattle.hexwrite.specs.RecordLaws.{WroteRecord}
 use Rattle.hexwrite.specs.TextLaws.{textFrom, text-none, text-more, length-from, length-room}
 

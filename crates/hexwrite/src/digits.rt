@@ -4,7 +4,7 @@ ghost use Prim.Native.Nat.{_+_, _*_, _/_, _%_, _<_, _≤_};
 ghost use lib.ListN.{length};
 ghost use Rattle.hextext.specs.Written.{hexDigit, spell};
 ghost use Rattle.hexwrite.specs.DigitsLaws.{Digits};
-ghost use Rattle.hexwrite.specs.WroteLaws.{Wrote};
+ghost use Rattle.laws.specs.Wrote.{Wrote};
 
 // The character of a number below 16.
 fn hex_digit(value: u8) -> u8

@@ -4,7 +4,7 @@ ghost use Prim.Native.Nat.{_+_, _*_, _<_, _≤_};
 ghost use lib.ListN.{length};
 ghost use Rattle.hextext.specs.Written.{spell, checksum};
 ghost use Rattle.hexwrite.specs.DigitsLaws.{Digits};
-ghost use Rattle.hexwrite.specs.WroteLaws.{Wrote};
+ghost use Rattle.laws.specs.Wrote.{Wrote};
 ghost use Rattle.hexwrite.specs.RecordLaws.{WroteRecord};
 use crate::digits::put_byte;
 use crate::digits::put_bytes;

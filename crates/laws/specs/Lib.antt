@@ -9,3 +9,4 @@ pub mod Sums
 pub mod Tables
 pub mod Bytes
 pub mod Loops
+pub mod Wrote

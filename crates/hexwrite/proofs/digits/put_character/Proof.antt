@@ -1,5 +1,5 @@
 use borrow.Author.Needs.{needs}
-use Rattle.hexwrite.specs.WroteLaws.{wrote-character}
+use Rattle.laws.specs.Wrote.{wrote-character}
 use Rattle.hexwrite.proofs.digits.put_character.Statement.{statement}
 use Rattle.hexwrite.proofs.digits.put_character.Tie as tie
 

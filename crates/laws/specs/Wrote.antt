@@ -1,4 +1,4 @@
--- Pieces written one after the other.
+-- Pieces written into a buffer one after the other.
 use mathlib.Core.Path.{_≡_, refl, sym, ap, _∙_}
 use mathlib.Core.List.{List, [], _∷_, _++_, append-nil, append-assoc}
 use Prim.Native.Nat.{ℕ, _+_, _<_}
@@ -6,7 +6,6 @@ use native.Mathlib.Omega.{arith}
 use native.Mathlib.Numerals.{add-one}
 use lib.ListN.{length, take, set, length-append}
 use lib.Seq.{take-suc-set}
-use Rattle.hextext.specs.Written.{spell}
 
 -- the piece p was written at `at`: d′ has d's first `at` bytes and then p. What stands after it is anything
 pub record Wrote (at : ℕ) (p d d′ : List ℕ) : Type 0 where
@@ -22,10 +21,3 @@ pub wrote-then : (at m : ℕ) (p q d d₁ d₂ : List ℕ) → Wrote at p d d₁
 wrote-then at m p q d d₁ d₂ w e v =
     let n : at + length (p ++ q) ≡ m + length q = omega (arith, length-append p q) in
     record { is = rw n (v .is ∙ rw e (ap (λ (l : List ℕ). l ++ q) (w .is) ∙ append-assoc (take at d) p q)) }
-
--- ---- the characters of bytes
-
-pub spell-append : (l m : List ℕ) → spell (l ++ m) ≡ spell l ++ spell m
-unfolding spell
-spell-append [] m = refl
-spell-append (b ∷ l) m = rw (spell-append l m)
