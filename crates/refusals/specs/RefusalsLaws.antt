@@ -1,9 +1,11 @@
 -- Laws of lent buffers: from a buffer that begins with the result to one with zeros after it.
-use mathlib.Core.Path.{_≡_, refl, sym, _∙_}
+use mathlib.Core.Path.{_≡_, refl, sym, ap, _∙_}
 use mathlib.Core.List.{List, []}
 use Prim.Native.Nat.{ℕ, _-_}
 use native.Mathlib.Nat.{sub-zero}
-use lib.ListN.{length, take}
+use native.Mathlib.Omega.{arith}
+use lib.ListN.{length, take, replicate}
+use lib.Seq.{take-append-seam}
 use Rattle.numbers.specs.Slices.{clearedFrom}
 use Rattle.refusals.specs.declared.Refusal.{Refusal}
 use Rattle.refusals.specs.declared.Filled.{Filled}
@@ -35,3 +37,23 @@ settled-fills o before d d′ a r e b s = record { answers = s .same ∙ b .answ
     held : (p : Outcome) → a ≡ answerTo p → take (filledLength a) d ≡ contents p → clearedFrom (filledLength a) d ≡ heldAfter (length before) p
     held (result x) f g = rw (g, e, f)
     held (refused q) f g = rw (g, e, f) (rw (sub-zero (length before)))
+
+-- ---- from an answer back to what it answers
+
+module _ (o : Outcome) (before after : List ℕ) (a : Filled) (f : Fills o before a after) where
+  pub refused-of : (r : Refusal) → a ≡ Refused r → o ≡ refused r
+  refused-of r e = by o refl
+    where
+      by : (p : Outcome) → o ≡ p → o ≡ refused r
+      by (refused q) s = s ∙ ap refused (cc (rw s at (f .answers), e))
+      by (result x) s = let z : _≡_ {A = ℕ} 0 1 = cc (rw s at (f .answers), e) in absurd (omega arith)
+
+  pub result-of : (n : ℕ) → a ≡ Length n → o ≡ result (take n after)
+  result-of n e = by o refl
+    where
+      by : (p : Outcome) → o ≡ p → o ≡ result (take n after)
+      by (refused q) s = let z : _≡_ {A = ℕ} 0 1 = cc (rw s at (f .answers), e) in absurd (omega arith)
+      by (result x) s =
+          let size : n ≡ length x = cc (rw s at (f .answers), e) in
+          let held : after ≡ heldAfter (length before) (result x) = rw s at (f .holds) in
+          s ∙ ap result (sym (rw (held, size) (take-append-seam x (replicate (length before - length x) 0))))
