@@ -7,7 +7,11 @@ fn show_file(name: &[u8]) {
         os::fail(name);
         return;
     }
-    display::show(file);
+    let mut text = [0u8; 65537];
+    let length = io::read_full(file, &mut text);
+    let mut page = [0u8; 512];
+    let end = display::show(&text[..length], &mut page);
+    io::write_all(1, &page[..end]);
 }
 
 fn main() {

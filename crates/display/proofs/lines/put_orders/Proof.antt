@@ -1,0 +1,39 @@
+use borrow.Author.Needs.{needs}
+use Rattle.display.specs.WordsLaws.{printed-then}
+use Rattle.display.proofs.lines.put_orders.Statement.{statement}
+use Rattle.display.proofs.lines.put_orders.Tie as tie
+
+ruleset laws = (needs, printed-then)
+
+cast-put-field : tie.Need-cast-put-field
+cast-put-field c = search needs
+
+put-field-requires : tie.Need-put-field-requires
+put-field-requires c κs = search needs
+
+slice-aggregate-put-field : tie.Need-slice-aggregate-put-field
+slice-aggregate-put-field c = search needs
+
+cast-put-field-2 : tie.Need-cast-put-field-2
+cast-put-field-2 c = search needs
+
+put-field-requires-2 : tie.Need-put-field-requires-2
+put-field-requires-2 c κs = search needs
+
+same-length : tie.Need-same-length
+same-length c = search needs
+
+returns : tie.Need-returns
+returns c = search laws
+
+pub put-orders-spec : {M : Type 1} → statement M
+put-orders-spec =
+    tie.close
+    (tie.spec
+    cast-put-field
+    put-field-requires
+    slice-aggregate-put-field
+    cast-put-field-2
+    put-field-requires-2
+    same-length
+    returns)

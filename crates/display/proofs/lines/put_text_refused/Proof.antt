@@ -1,0 +1,25 @@
+use borrow.Author.Needs.{needs}
+use Rattle.display.specs.WordsLaws.{printed-then}
+use Rattle.display.proofs.lines.put_text_refused.Statement.{statement}
+use Rattle.display.proofs.lines.put_text_refused.Tie as tie
+
+ruleset laws = (needs, printed-then)
+
+slice-aggregate-put : tie.Need-slice-aggregate-put
+slice-aggregate-put c = search needs
+
+put-requires : tie.Need-put-requires
+put-requires c κs = search needs
+
+put-refused-requires : tie.Need-put-refused-requires
+put-refused-requires c κs = search needs
+
+same-length : tie.Need-same-length
+same-length c = search needs
+
+returns : tie.Need-returns
+returns c = search laws
+
+pub put-text-refused-spec : {M : Type 1} → statement M
+put-text-refused-spec =
+    tie.close (tie.spec slice-aggregate-put put-requires put-refused-requires same-length returns)

@@ -1,0 +1,115 @@
+ghost use mathlib.Core.List.{_++_};
+ghost use Prim.Native.Nat.{_+_, _≤_};
+ghost use lib.ListN.{length};
+ghost use Rattle.display.specs.Page.{refusedWords, identityWords, orderWords, setsWords, acceptedWords, levelLine, textRefused, pageOf};
+ghost use Rattle.display.specs.WordsLaws.{Printed};
+use crate::words::put;
+use crate::words::put_field;
+use crate::words::put_two_digits;
+use bodies::Identity;
+use refusals::Filled;
+use refusals::Refusal;
+use refusals::Verdict;
+use sets::Set;
+
+fn put_refused(page: &mut [u8], at: usize, refusal: Refusal) -> usize
+    requires { ⌜ at + 51 ≤ length (now page) ⌝ }
+    ensures { λ r. ⌜ Printed at (refusedWords refusal) (now (page .entry)) r (now (page .exit)) ⌝ }
+    ensures { λ r. ⌜ r ≤ at + 51 ⌝ }
+{
+    let number = put_field(page, at, b" refused ", refusal.number as u64);
+    let detail = put_field(page, number, b" ", refusal.detail);
+    put(page, detail, b"\n")
+}
+
+fn put_identity(page: &mut [u8], at: usize, identity: Identity) -> usize
+    requires { ⌜ at + 98 ≤ length (now page) ⌝ }
+    ensures { λ r. ⌜ Printed at (identityWords identity) (now (page .entry)) r (now (page .exit)) ⌝ }
+    ensures { λ r. ⌜ r ≤ at + 98 ⌝ }
+{
+    let serial = put_field(page, at, b" serial ", identity.serial as u64);
+    let year = put_field(page, serial, b" date ", identity.year as u64);
+    let month = put_two_digits(page, year, identity.month);
+    put_two_digits(page, month, identity.day)
+}
+
+fn put_orders(page: &mut [u8], at: usize, words: &[u8], set: Set) -> usize
+    requires { ⌜ at + (length (now words) + 41) ≤ length (now page) ⌝ }
+    ensures { λ r. ⌜ Printed at (orderWords (now (words .entry)) set) (now (page .entry)) r (now (page .exit)) ⌝ }
+    ensures { λ r. ⌜ r ≤ at + (length (now (words .entry)) + 41) ⌝ }
+{
+    let by_pressure = set.pressure;
+    let by_temperature = set.temperature;
+    let pressure = put_field(page, at, words, by_pressure.order as u64);
+    put_field(page, pressure, b" ", by_temperature.order as u64)
+}
+
+fn put_sets(page: &mut [u8], at: usize, pressure_set: Set, temperature_set: Set) -> usize
+    requires { ⌜ at + 106 ≤ length (now page) ⌝ }
+    ensures { λ r. ⌜ Printed at (setsWords «pressure_set» «temperature_set») (now (page .entry)) r (now (page .exit)) ⌝ }
+    ensures { λ r. ⌜ r ≤ at + 106 ⌝ }
+{
+    let pressure = put_orders(page, at, b" pressure ", pressure_set);
+    let temperature = put_orders(page, pressure, b" temperature ", temperature_set);
+    put(page, temperature, b"\n")
+}
+
+fn put_accepted(page: &mut [u8], at: usize, image: &[u8]) -> usize
+    requires { ⌜ at + 204 ≤ length (now page) ⌝ }
+    ensures { λ r. ⌜ Printed at (acceptedWords (now (image .entry))) (now (page .entry)) r (now (page .exit)) ⌝ }
+    ensures { λ r. ⌜ r ≤ at + 204 ⌝ }
+{
+    let identity = bodies::read_identity(finder::find(image, 1));
+    let pressure_set = sets::read_set(finder::find(image, 2));
+    let temperature_set = sets::read_set(finder::find(image, 3));
+    let end = put_identity(page, at, identity);
+    put_sets(page, end, pressure_set, temperature_set)
+}
+
+fn put_level(page: &mut [u8], at: usize, level: u32, image: &[u8]) -> usize
+    requires { ⌜ at + 230 ≤ length (now page) ⌝ }
+    ensures { λ r. ⌜ Printed at (levelLine level (now (image .entry))) (now (page .entry)) r (now (page .exit)) ⌝ }
+    ensures { λ r. ⌜ r ≤ at + 230 ⌝ }
+{
+    let end = put_field(page, at, b"level ", level as u64);
+    let verdict = panel::verdict(image, level);
+    match verdict {
+        Verdict::Accepted => put_accepted(page, end, image),
+        Verdict::Refused(refusal) => put_refused(page, end, refusal),
+    }
+}
+
+fn put_text_refused(page: &mut [u8], refusal: Refusal) -> usize
+    requires { ⌜ 55 ≤ length (now page) ⌝ }
+    ensures { λ r. ⌜ Printed 0 (textRefused refusal) (now (page .entry)) r (now (page .exit)) ⌝ }
+    ensures { λ r. ⌜ r ≤ 55 ⌝ }
+{
+    let end = put(page, 0, b"text");
+    put_refused(page, end, refusal)
+}
+
+pub fn put_page(page: &mut [u8], given: &[u8]) -> usize
+    requires { ⌜ 460 ≤ length (now page) ⌝ }
+    ensures { λ r. ⌜ Printed 0 (pageOf (now (given .entry))) (now (page .entry)) r (now (page .exit)) ⌝ }
+    ensures { λ r. ⌜ r ≤ 460 ⌝ }
+{
+    if 65536 < given.len() {
+        return put_text_refused(
+            page,
+            Refusal {
+                number: 4,
+                detail: 0,
+            },
+        );
+    }
+    let mut image = [0u8; 4096];
+    let told = hexread::read(given, &mut image);
+    match told {
+        Filled::Length(length) => {
+            let read = numbers::slices::part(&image, 0, length);
+            let first = put_level(page, 0, 1, read);
+            put_level(page, first, 2, read)
+        }
+        Filled::Refused(refusal) => put_text_refused(page, refusal),
+    }
+}
