@@ -4,6 +4,7 @@ use mathlib.Core.List.{List, [], _++_}
 use Prim.Native.Nat.{ℕ}
 use lib.Dec.{leb}
 use lib.ListN.{length}
+use Rattle.laws.specs.Characters.{characters}
 use Rattle.refusals.specs.declared.Refusal.{Refusal}
 use Rattle.refusals.specs.declared.Verdict.{Verdict}
 use Rattle.refusals.specs.declared.Verdict.the-variants.{Accepted, Refused}
@@ -15,23 +16,23 @@ use Rattle.bodies.specs.Identity.{identityOf}
 use Rattle.sets.specs.declared.Set.{Set}
 use Rattle.sets.specs.Set.{setOf}
 use Rattle.panel.specs.Verdict.{verdictOf}
-use Rattle.display.specs.Words.{ascii, field, twoDigits}
+use Rattle.display.specs.Words.{field, twoDigits}
 
 -- a refusal: its number and its detail
 abbrev pub refusedWords : Refusal → List ℕ
-refusedWords r = field (ascii " refused ") (r .number) ++ field (ascii " ") (r .detail) ++ ascii "\n"
+refusedWords r = field (characters " refused ") (r .number) ++ field (characters " ") (r .detail) ++ characters "\n"
 
 -- ---- an accepted image
 
 abbrev pub identityWords : Identity → List ℕ
-identityWords i = field (ascii " serial ") (i .serial) ++ field (ascii " date ") (i .year) ++ twoDigits (i .month) ++ twoDigits (i .day)
+identityWords i = field (characters " serial ") (i .serial) ++ field (characters " date ") (i .year) ++ twoDigits (i .month) ++ twoDigits (i .day)
 
 -- the orders NP and NT of a set
 abbrev pub orderWords : List ℕ → Set → List ℕ
-orderWords words set = field words (set .pressure .order) ++ field (ascii " ") (set .temperature .order)
+orderWords words set = field words (set .pressure .order) ++ field (characters " ") (set .temperature .order)
 
 abbrev pub setsWords : (pressure temperature : Set) → List ℕ
-setsWords pressure temperature = orderWords (ascii " pressure ") pressure ++ orderWords (ascii " temperature ") temperature ++ ascii "\n"
+setsWords pressure temperature = orderWords (characters " pressure ") pressure ++ orderWords (characters " temperature ") temperature ++ characters "\n"
 
 abbrev bodyFound : (image : List ℕ) (kind : ℕ) → List ℕ
 bodyFound image kind = orElse [] (found image kind)
@@ -46,10 +47,10 @@ verdictWords Accepted image = acceptedWords image
 verdictWords (Refused r) image = refusedWords r
 
 unfoldable pub levelLine : (number : ℕ) (image : List ℕ) → List ℕ
-levelLine number image = field (ascii "level ") number ++ verdictWords (verdictOf number image) image
+levelLine number image = field (characters "level ") number ++ verdictWords (verdictOf number image) image
 
 abbrev pub textRefused : Refusal → List ℕ
-textRefused r = ascii "text" ++ refusedWords r
+textRefused r = characters "text" ++ refusedWords r
 
 -- of a text that is read, a line for each level
 abbrev outcomePage : Outcome → List ℕ

@@ -7,6 +7,7 @@ use native.Mathlib.Omega.{arith}
 use borrow.Author.Tests.{le-leb, lt-leb}
 use denote.Ref.{RefT, now}
 use lib.ListN.{length, take, drop, replicate, length-append, length-take}
+use Rattle.laws.specs.Characters.{characters}
 use Rattle.io.specs.Counts.{Counts}
 use Rattle.numbers.specs.Slices.{clearedFrom}
 use Rattle.refusals.specs.declared.Refusal.{Refusal}
@@ -23,7 +24,7 @@ use Rattle.bodies.specs.Identity.{identityOf}
 use Rattle.sets.specs.declared.Set.{Set}
 use Rattle.sets.specs.Set.{setOf}
 use Rattle.panel.specs.Verdict.{verdictOf}
-use Rattle.display.specs.Words.{ascii, field, twoDigits}
+use Rattle.display.specs.Words.{field, twoDigits}
 use Rattle.display.specs.Page.{refusedWords, identityWords, setsWords, acceptedWords, levelLine, textRefused, pageOf}
 use Rattle.display.specs.WordsLaws.{Printed, printed-then}
 
@@ -39,20 +40,20 @@ module _ (at m end : ℕ) (d d₁ d₂ : List ℕ) where
       let three = k ∙ ap setOf (h .holds) in
       rw (← one, ← two, ← three) (printed-then at m end (identityWords identity) (setsWords p t) d d₁ d₂ w v)
 
-  module _ (level : ℕ) (image : List ℕ) (verdict : Verdict) (e : verdict ≡ verdictOf level image) (w : Printed at (field (ascii "level ") level) d m d₁) where
+  module _ (level : ℕ) (image : List ℕ) (verdict : Verdict) (e : verdict ≡ verdictOf level image) (w : Printed at (field (characters "level ") level) d m d₁) where
     pub level-accepted : verdict ≡ Accepted → Printed m (acceptedWords image) d₁ end d₂ → Printed at (levelLine level image) d end d₂
     unfolding levelLine
-    level-accepted a v = rw (← e, a) (printed-then at m end (field (ascii "level ") level) (acceptedWords image) d d₁ d₂ w v)
+    level-accepted a v = rw (← e, a) (printed-then at m end (field (characters "level ") level) (acceptedWords image) d d₁ d₂ w v)
 
     pub level-refused : (r : Refusal) → verdict ≡ NotAccepted r → Printed m (refusedWords r) d₁ end d₂ → Printed at (levelLine level image) d end d₂
     unfolding levelLine
-    level-refused r a v = rw (← e, a) (printed-then at m end (field (ascii "level ") level) (refusedWords r) d d₁ d₂ w v)
+    level-refused r a v = rw (← e, a) (printed-then at m end (field (characters "level ") level) (refusedWords r) d d₁ d₂ w v)
 
-pub identity-printed : (at a b c end : ℕ) (d d₁ d₂ d₃ d₄ : List ℕ) (i : Identity) → Printed at (field (ascii " serial ") (i .serial)) d a d₁ → Printed a (field (ascii " date ") (i .year)) d₁ b d₂
+pub identity-printed : (at a b c end : ℕ) (d d₁ d₂ d₃ d₄ : List ℕ) (i : Identity) → Printed at (field (characters " serial ") (i .serial)) d a d₁ → Printed a (field (characters " date ") (i .year)) d₁ b d₂
     → Printed b (twoDigits (i .month)) d₂ c d₃ → Printed c (twoDigits (i .day)) d₃ end d₄ → Printed at (identityWords i) d end d₄
 identity-printed at a b c end d d₁ d₂ d₃ d₄ i s y m t =
-    let serial = field (ascii " serial ") (i .serial) in
-    let year = field (ascii " date ") (i .year) in
+    let serial = field (characters " serial ") (i .serial) in
+    let year = field (characters " date ") (i .year) in
     let dated = printed-then at a b serial year d d₁ d₂ s y in
     let monthly = printed-then at b c (serial ++ year) (twoDigits (i .month)) d d₂ d₃ dated m in
     printed-then at c end (serial ++ year ++ twoDigits (i .month)) (twoDigits (i .day)) d d₃ d₄ monthly t

@@ -1,14 +1,9 @@
--- The words and numbers that the show program prints, in ASCII.
+-- The numbers that the show program prints, and words before them.
 use mathlib.Core.Bool.{cond}
 use mathlib.Core.List.{List, [], _∷_, _++_}
 use Prim.Native.Nat.{ℕ, zero, suc, _+_, _/_, _%_}
-use Prim.Native.Char.{code}
-use Prim.Native.String.{String, [] as nothing, _∷_ as _before_}
 use lib.Dec.{ltb}
-
-abbrev pub ascii : String → List ℕ
-ascii nothing = []
-ascii (c before s) = code c ∷ ascii s
+use Rattle.laws.specs.Characters.{characters}
 
 abbrev pub digit : ℕ → ℕ
 digit n = 48 + n
@@ -27,4 +22,4 @@ field words n = words ++ decimal n
 
 -- month or day after a hyphen, in two digits
 abbrev pub twoDigits : ℕ → List ℕ
-twoDigits n = cond (ltb n 10) (field (ascii "-0") n) (field (ascii "-") n)
+twoDigits n = cond (ltb n 10) (field (characters "-0") n) (field (characters "-") n)

@@ -11,8 +11,9 @@ use lib.Seq.{take-suc, take-all}
 use Rattle.io.specs.Counts.{Counts}
 use Rattle.io.specs.Digits.{glyph, digits, Fewest}
 use Rattle.laws.specs.Cases.{split}
+use Rattle.laws.specs.Characters.{characters}
 use Rattle.laws.specs.Wrote.{Wrote, wrote-nothing, wrote-character, wrote-then}
-use Rattle.display.specs.Words.{ascii, digit, decimalIn, decimal, field, twoDigits}
+use Rattle.display.specs.Words.{digit, decimalIn, decimal, field, twoDigits}
 
 -- the words were put at `at`, and end at `end`
 pub record Printed (at : ℕ) (words d : List ℕ) (end : ℕ) (d′ : List ℕ) : Type 0 where
@@ -101,8 +102,8 @@ module _ (k n : ℕ) (out : List ℕ) (c : Counts k out) (f : Fewest 10 1 n k) (
       (printed-then at m end words (decimal n) d d₁ d₂ p (rw (← fewest-decimal k n f, ← e) q), omega (arith, p .ends, q .ends, digits-fit))
 
 module _ (at n end : ℕ) (d d′ : List ℕ) where
-  pub one-digit-printed : n < 10 → Printed at (field (ascii "-0") n) d end d′ → Printed at (twoDigits n) d end d′
+  pub one-digit-printed : n < 10 → Printed at (field (characters "-0") n) d end d′ → Printed at (twoDigits n) d end d′
   one-digit-printed h p = rw (lt-ltb n 10 h) p
 
-  pub more-digits-printed : 10 ≤ n → Printed at (field (ascii "-") n) d end d′ → Printed at (twoDigits n) d end d′
+  pub more-digits-printed : 10 ≤ n → Printed at (field (characters "-") n) d end d′ → Printed at (twoDigits n) d end d′
   more-digits-printed h p = rw (le-ltb n 10 h) p

@@ -8,6 +8,7 @@ use native.Mathlib.Omega.{arith}
 use lib.ListN.{length, replicate}
 use Rattle.laws.specs.Bytes.{Bytes}
 use Rattle.laws.specs.Cases.{never}
+use Rattle.laws.specs.Characters.{characters}
 use Rattle.laws.specs.Sums.{total}
 use Rattle.refusals.specs.declared.Filled.{Filled}
 use Rattle.refusals.specs.declared.Filled.the-variants.{Length}
@@ -15,7 +16,6 @@ use Rattle.refusals.specs.Refusals.{result, refused, refusal, Fills}
 use Rattle.hextext.specs.Record.{digit, allDigits, bytesOf, formed}
 use Rattle.hextext.specs.Text.{bare, readText}
 use Rattle.hextext.specs.Written.{hexDigit, spell, checksum, headAndData, recordText, writing, textOf, textLength, writeImage}
-use Rattle.hexformat.specs.Characters.{characters}
 use Rattle.hexformat.specs.Format.{upperCase, LineEnd, lf, crlf, Fields, bytes, Form, Balanced, IsData, IsEnd, none, next, GoodText}
 use Rattle.hexformat.specs.Faults.{Refuses, stops, breaks, goesOn, noForm, notBalanced, neither, noRoom}
 use Rattle.hexformat.specs.Damage.{IsRefused, SameDigit, SpareReturn, WholeLines, none as no-lines, LastData}

@@ -5,7 +5,6 @@ pub mod Agrees
 pub mod GoodTexts
 pub mod RoundTrip
 pub mod Damaged
-pub mod Characters
 pub mod Examples
 pub mod SpelledLaws
 pub mod BareLaws

@@ -10,3 +10,4 @@ pub mod Tables
 pub mod Bytes
 pub mod Loops
 pub mod Wrote
+pub mod Characters

@@ -13,7 +13,7 @@ use Rattle.panel.specs.Levels.{knows}
 use Rattle.panel.specs.Verdict.{unknownVerdict, missingVerdict, sectionsVerdict, verdictOf}
 
 -- one empty section
-abbrev image : (kind : ℕ) → List ℕ
+abbrev pub image : (kind : ℕ) → List ℕ
 image kind = 0x51 ∷ 0x01 ∷ kind ∷ 0x00 ∷ 0x0A ∷ 0x00 ∷ 0x00 ∷ 0x00 ∷ 0x00 ∷ 0x00 ∷ []
 
 pub level-1 : verdictOf 1 (image 200) ≡ Refused (refusal 10 1)

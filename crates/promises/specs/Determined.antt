@@ -18,7 +18,7 @@ use Rattle.image.specs.Find.{Found}
 -- number2, number4, number8, signed4, signed8, signed_of_8; numbers::slices::byte_sum, clear_from (of the buffer);
 -- refusals::refused, tell_verdict, tell_filled; layout::layout; finder::stated, place_of, has, tell_place; sets::set_verdict, read_set, read_grid;
 -- bodies::identity_verdict, read_identity, trim_verdict, read_trim, note_verdict; reading::measured, tell_answer; panel::verdict,
--- panel::reading; bjorkneve_layout, bjorkneve_verdict, bjorkneve_find, bjorkneve_reading.
+-- panel::reading; display::show (of its answer and of the page); bjorkneve_layout, bjorkneve_verdict, bjorkneve_find, bjorkneve_reading.
 pub determined : {A : Type 0} (r r′ said : A) → r ≡ said → r′ ≡ said → r ≡ r′
 determined r r′ said e f = e ∙ sym f
 

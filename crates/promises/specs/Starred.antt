@@ -4,13 +4,13 @@ use mathlib.Core.Path.{_≡_}
 use Prim.Native.Nat.{_+_, _^_}
 use lib.IntN.{ℤ, pos, negℤ}
 use lib.ListN.{length}
+use Rattle.laws.specs.Characters.{characters}
 use Rattle.whole.specs.Rounded.{rounded}
 use Rattle.whole.specs.Examples.{half, half-below-zero}
 use Rattle.refusals.specs.declared.Verdict.the-variants.{Accepted, Refused as NotAccepted}
 use Rattle.refusals.specs.Refusals.{refused, refusal}
 use Rattle.hextext.specs.Text.{readText}
 use Rattle.hextext.specs.Written.{textOf}
-use Rattle.hexformat.specs.Characters.{characters}
 use Rattle.hexformat.specs.Examples.{writes, writes-28, refuses}
 use Rattle.image.specs.Layout.{layoutVerdict}
 use Rattle.image.specs.Examples.{contents-overrun}
