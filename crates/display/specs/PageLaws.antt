@@ -7,8 +7,8 @@ use native.Mathlib.Omega.{arith}
 use borrow.Author.Tests.{le-leb, lt-leb}
 use denote.Ref.{RefT, now}
 use lib.ListN.{length, take, drop, replicate, length-append, length-take}
-use Rattle.laws.specs.Characters.{characters}
 use Rattle.io.specs.Counts.{Counts}
+use Rattle.laws.specs.Characters.{characters}
 use Rattle.numbers.specs.Slices.{clearedFrom}
 use Rattle.refusals.specs.declared.Refusal.{Refusal}
 use Rattle.refusals.specs.declared.Verdict.{Verdict}

@@ -1,5 +1,5 @@
 -- Words on a page one after the other, and the digits of a number.
-use mathlib.Core.Path.{_≡_, refl, sym, ap, _∙_}
+use mathlib.Core.Path.{_≡_, refl, _∙_}
 use mathlib.Core.List.{List, [], _∷_, _++_}
 use Prim.Native.Nat.{ℕ, zero, suc, _+_, _-_, _*_, _/_, _%_, _^_, _≤_, _<_}
 use native.Mathlib.Nat.{one-le-pow, pow-le-pow-right}
@@ -82,7 +82,7 @@ fewest-are (suc k) n zero f h = absurd (omega (arith, ten n k f))
 fewest-are (suc k) n (suc most) f h =
     rw (le-ltb n 10 (ten n k f), digit-of (n % 10) (omega arith), fewest-are k (n / 10) most (fewer n k f) (omega (arith, ten n k f)))
 
-pub fewest-decimal : (k n : ℕ) → Fewest 10 1 n k → digits 10 k n ≡ decimal n
+fewest-decimal : (k n : ℕ) → Fewest 10 1 n k → digits 10 k n ≡ decimal n
 fewest-decimal zero n f = absurd (omega (arith, f .0))
 fewest-decimal (suc k) n f = fewest-are k n n f (omega arith)
 

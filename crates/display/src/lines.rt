@@ -1,4 +1,4 @@
-ghost use mathlib.Core.List.{_++_};
+// Each function asks for the room of its words and of 20 digits for each number.
 ghost use Prim.Native.Nat.{_+_, _≤_};
 ghost use lib.ListN.{length};
 ghost use Rattle.display.specs.Page.{refusedWords, identityWords, orderWords, setsWords, acceptedWords, levelLine, textRefused, pageOf};
