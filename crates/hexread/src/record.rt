@@ -1,6 +1,6 @@
 ghost use mathlib.Core.Path.{_≡_};
 ghost use Prim.Native.Nat.{_+_, _*_, _≤_, max};
-ghost use lib.ListN.{length};
+ghost use lib.ListN.{length, take, drop};
 ghost use Rattle.hextext.specs.Record.{typed};
 ghost use Rattle.hexread.specs.DigitsLaws.{Valued};
 ghost use Rattle.hexread.specs.PairsLaws.{Summed, Put, TookData};
@@ -45,6 +45,20 @@ fn put_pairs(line: &[u8], from: usize, count: usize, image: &mut [u8], to: usize
     sum as usize
 }
 
+// The characters of 16 pairs, taken out: so the compiler knows that no byte of the image is among them.
+fn block_at(line: &[u8], from: usize) -> [u8; 32]
+    requires { ⌜ from + 32 ≤ length (now line) ⌝ }
+    ensures { λ r. ⌜ r ≡ take 32 (drop from (now (line .entry))) ⌝ }
+{
+    let mut characters = [0u8; 32];
+    let mut i: usize = 0;
+    while i < 32 {
+        characters[i] = line[from + i];
+        i += 1;
+    }
+    characters
+}
+
 // The same of a record's data, which start at the tenth character, in blocks of 16: a count that the compiler knows, so that
 // it takes a block at once.
 fn put_data(line: &[u8], count: usize, image: &mut [u8], to: usize) -> usize
@@ -54,7 +68,8 @@ fn put_data(line: &[u8], count: usize, image: &mut [u8], to: usize) -> usize
     let mut sum: usize = 0;
     let mut i: usize = 0;
     while 16 <= count - i {
-        let block = put_pairs(line, 9 + i * 2, 16, image, to + i);
+        let characters = block_at(line, 9 + i * 2);
+        let block = put_pairs(&characters, 0, 16, image, to + i);
         if 256 <= block {
             return 256;
         }

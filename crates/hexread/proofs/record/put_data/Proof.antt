@@ -1,6 +1,8 @@
-use Prim.Native.Nat.{_-_}
+use Prim.Native.Nat.{_+_, _-_, _*_}
 use borrow.Author.Needs.{needs}
+use denote.Ref.{now}
 use Rattle.hexread.specs.PairsLaws.{Putting, putting-first, putting-block, putting-block-failed, putting-rest}
+use Rattle.hexread.specs.BlockLaws.{put-of-block}
 use Rattle.hexread.proofs.record.put_data.Statement.{statement}
 use Rattle.hexread.proofs.record.put_data.Tie as tie
 
@@ -18,14 +20,20 @@ loop-holds c = search laws
 sub-loop : tie.Need-sub-loop Inv-loop μ-loop
 sub-loop c = search laws
 
-mul-put-pairs : tie.Need-mul-put-pairs Inv-loop μ-loop
-mul-put-pairs c = search laws
+mul-block-at : tie.Need-mul-block-at Inv-loop μ-loop
+mul-block-at c = search laws
+
+add-block-at : tie.Need-add-block-at Inv-loop μ-loop
+add-block-at c = search laws
+
+block-at-requires : tie.Need-block-at-requires Inv-loop μ-loop
+block-at-requires c κs = search laws
+
+slice-aggregate-put-pairs : tie.Need-slice-aggregate-put-pairs Inv-loop μ-loop
+slice-aggregate-put-pairs c = search laws
 
 add-put-pairs : tie.Need-add-put-pairs Inv-loop μ-loop
 add-put-pairs c = search laws
-
-add-put-pairs-2 : tie.Need-add-put-pairs-2 Inv-loop μ-loop
-add-put-pairs-2 c = search laws
 
 put-pairs-requires : tie.Need-put-pairs-requires Inv-loop μ-loop
 put-pairs-requires c κs = search laws
@@ -34,7 +42,9 @@ same-length : tie.Need-same-length Inv-loop μ-loop
 same-length c = search laws
 
 returns : tie.Need-returns Inv-loop μ-loop
-returns c = search laws
+returns c =
+    let p = put-of-block (now (c .before .before .before .before .before .before .before .before .before .before .before .args .line)) (9 + c .before .before .before .before .before .before .before .before .loop .i * 2) 16 _ (c .before .before .before .before .before .before .block-at .ensures) (search laws) _ _ _ _ (c .before .before .before .put-pairs .ensures) in
+    search laws
 
 add-sum : tie.Need-add-sum Inv-loop μ-loop
 add-sum c = search laws
@@ -46,19 +56,21 @@ loop-less : tie.Need-loop-less Inv-loop μ-loop
 loop-less c = search laws
 
 loop-again : tie.Need-loop-again Inv-loop μ-loop
-loop-again c = search laws
+loop-again c =
+    let p = put-of-block (now (c .before .before .before .before .before .before .before .before .before .before .before .args .line)) (9 + c .before .before .before .before .before .before .before .before .loop .i * 2) 16 _ (c .before .before .before .before .before .before .block-at .ensures) (search laws) _ _ _ _ (c .before .before .before .put-pairs .ensures) in
+    search laws
 
-mul-put-pairs-2 : tie.Need-mul-put-pairs-2 Inv-loop μ-loop
-mul-put-pairs-2 c = search laws
+mul-put-pairs : tie.Need-mul-put-pairs Inv-loop μ-loop
+mul-put-pairs c = search laws
 
-add-put-pairs-3 : tie.Need-add-put-pairs-3 Inv-loop μ-loop
-add-put-pairs-3 c = search laws
+add-put-pairs-2 : tie.Need-add-put-pairs-2 Inv-loop μ-loop
+add-put-pairs-2 c = search laws
 
 sub-put-pairs : tie.Need-sub-put-pairs Inv-loop μ-loop
 sub-put-pairs c = search laws
 
-add-put-pairs-4 : tie.Need-add-put-pairs-4 Inv-loop μ-loop
-add-put-pairs-4 c = search laws
+add-put-pairs-3 : tie.Need-add-put-pairs-3 Inv-loop μ-loop
+add-put-pairs-3 c = search laws
 
 put-pairs-requires-2 : tie.Need-put-pairs-requires-2 Inv-loop μ-loop
 put-pairs-requires-2 c κs = search laws
@@ -86,9 +98,11 @@ put-data-spec =
     μ-loop
     loop-holds
     sub-loop
-    mul-put-pairs
+    mul-block-at
+    add-block-at
+    block-at-requires
+    slice-aggregate-put-pairs
     add-put-pairs
-    add-put-pairs-2
     put-pairs-requires
     same-length
     returns
@@ -96,10 +110,10 @@ put-data-spec =
     add-i
     loop-less
     loop-again
-    mul-put-pairs-2
-    add-put-pairs-3
+    mul-put-pairs
+    add-put-pairs-2
     sub-put-pairs
-    add-put-pairs-4
+    add-put-pairs-3
     put-pairs-requires-2
     same-length-2
     returns-2

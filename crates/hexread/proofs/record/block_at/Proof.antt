@@ -1,0 +1,52 @@
+use Prim.Native.Nat.{_-_}
+use borrow.Author.Needs.{needs}
+use Rattle.hexread.specs.BlockLaws.{Taking, taking-first, taking-more, taking-end}
+use Rattle.hexread.proofs.record.block_at.Statement.{statement}
+use Rattle.hexread.proofs.record.block_at.Tie as tie
+
+ruleset laws = (needs, taking-first, taking-more, taking-end)
+
+abbrev Inv-loop : tie.InvT-loop
+Inv-loop line from characters₀ i₀ characters i = Taking line from characters i
+
+abbrev μ-loop : tie.MeasureT-loop
+μ-loop line from characters₀ i₀ characters i = 32 - i
+
+loop-holds : tie.Need-loop-holds Inv-loop μ-loop
+loop-holds c = search laws
+
+add-characters : tie.Need-add-characters Inv-loop μ-loop
+add-characters c = search laws
+
+shared-slice-read-characters : tie.Need-shared-slice-read-characters Inv-loop μ-loop
+shared-slice-read-characters c = search laws
+
+array-write-characters : tie.Need-array-write-characters Inv-loop μ-loop
+array-write-characters c = search laws
+
+add-i : tie.Need-add-i Inv-loop μ-loop
+add-i c = search laws
+
+loop-less : tie.Need-loop-less Inv-loop μ-loop
+loop-less c = search laws
+
+loop-again : tie.Need-loop-again Inv-loop μ-loop
+loop-again c = search laws
+
+returns : tie.Need-returns Inv-loop μ-loop
+returns c = search laws
+
+pub block-at-spec : {M : Type 1} → statement M
+block-at-spec =
+    tie.close
+    (tie.spec
+    Inv-loop
+    μ-loop
+    loop-holds
+    add-characters
+    shared-slice-read-characters
+    array-write-characters
+    add-i
+    loop-less
+    loop-again
+    returns)
