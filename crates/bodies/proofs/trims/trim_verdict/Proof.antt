@@ -5,14 +5,14 @@ use Rattle.refusals.specs.TestsLaws.{equal, unequal, same, other, outside-told,
 use Rattle.bodies.proofs.trims.trim_verdict.Statement.{statement}
 use Rattle.bodies.proofs.trims.trim_verdict.Tie as tie
 
-ruleset laws = (judged, equal, unequal, same, other, outside-told, beyond-told, read-as, past-right, stop-at-wrong, all-right)
+ruleset tests = (equal, unequal, same, other, outside-told, beyond-told, read-as)
 
 refused-requires : tie.Need-refused-requires
 refused-requires c κs = search needs
 
 returns : tie.Need-returns
 unfolding trimFields
-returns c = search laws depth 16
+returns c = judged _ _ _ (stop-at-wrong (search tests) (search needs))
 
 number1-requires : tie.Need-number1-requires
 number1-requires c κs = search needs
@@ -28,7 +28,7 @@ refused-requires-2 c κs = search needs
 
 returns-2 : tie.Need-returns-2
 unfolding trimFields
-returns-2 c = search laws depth 16
+returns-2 c = judged _ _ _ (past-right (search tests) (stop-at-wrong (search tests) (search needs)))
 
 number1-requires-2 : tie.Need-number1-requires-2
 number1-requires-2 c κs = search needs
@@ -38,7 +38,7 @@ refused-requires-3 c κs = search needs
 
 returns-3 : tie.Need-returns-3
 unfolding trimFields
-returns-3 c = search laws depth 16
+returns-3 c = judged _ _ _ (past-right (search tests) (past-right (search tests) (stop-at-wrong (search tests) (search needs))))
 
 number1-requires-3 : tie.Need-number1-requires-3
 number1-requires-3 c κs = search needs
@@ -48,7 +48,7 @@ refused-requires-4 c κs = search needs
 
 returns-4 : tie.Need-returns-4
 unfolding trimFields
-returns-4 c = search laws depth 16
+returns-4 c = judged _ _ _ (past-right (search tests) (past-right (search tests) (past-right (search tests) (stop-at-wrong (search tests) (search needs)))))
 
 number1-requires-4 : tie.Need-number1-requires-4
 number1-requires-4 c κs = search needs
@@ -58,7 +58,7 @@ refused-requires-5 c κs = search needs
 
 returns-5 : tie.Need-returns-5
 unfolding trimFields
-returns-5 c = search laws depth 16
+returns-5 c = judged _ _ _ (past-right (search tests) (past-right (search tests) (past-right (search tests) (past-right (search tests) (stop-at-wrong (search tests) (search needs))))))
 
 number4-requires : tie.Need-number4-requires
 number4-requires c κs = search needs
@@ -74,7 +74,7 @@ refused-requires-6 c κs = search needs
 
 returns-6 : tie.Need-returns-6
 unfolding trimFields
-returns-6 c = search laws depth 16
+returns-6 c = judged _ _ _ (past-right (search tests) (past-right (search tests) (past-right (search tests) (past-right (search tests) (past-right (search tests) (stop-at-wrong (search tests) (search needs)))))))
 
 signed8-requires : tie.Need-signed8-requires
 signed8-requires c κs = search needs
@@ -87,11 +87,11 @@ refused-requires-7 c κs = search needs
 
 returns-7 : tie.Need-returns-7
 unfolding trimFields
-returns-7 c = search laws depth 16
+returns-7 c = judged _ _ _ (past-right (search tests) (past-right (search tests) (past-right (search tests) (past-right (search tests) (past-right (search tests) (past-right (search tests) (stop-at-wrong (search tests) (search needs))))))))
 
 returns-8 : tie.Need-returns-8
 unfolding trimFields
-returns-8 c = search laws depth 16
+returns-8 c = judged _ _ _ (past-right (search tests) (past-right (search tests) (past-right (search tests) (past-right (search tests) (past-right (search tests) (past-right (search tests) (past-right (search tests) all-right)))))))
 
 pub trim-verdict-spec : {M : Type 1} → statement M
 trim-verdict-spec =
