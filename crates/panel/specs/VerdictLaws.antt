@@ -54,11 +54,11 @@ module _ (image : List ℕ) (level count i : ℕ) (p : Passing (unknownVerdict l
         let passed : mayPass level (kindAt image i) ≡ true = rw k at (sym e ∙ not-false b t) in
         record { rest = rw (one-left count i more, passed) at (p .rest); few = p .few }
 
-    pub unknown-here : {r : Verdict} → r ≡ Refused (refusal 9 kind) → not b ≡ true → r ≡ unknownVerdict level (sections image)
+    pub unknown-here : not b ≡ true → Refused (refusal 9 kind) ≡ unknownVerdict level (sections image)
     unfolding unknownVerdict sectionsFrom
-    unknown-here f t =
+    unknown-here t =
         let stopped : mayPass level (kindAt image i) ≡ false = rw k at (sym e ∙ not-true b t) in
-        rw (f, k) (rw (one-left count i more, stopped) at (p .rest))
+        rw k (rw (one-left count i more, stopped) at (p .rest))
 
   pub none-unknown : count ≤ i → Accepted ≡ unknownVerdict level (sections image)
   unfolding unknownVerdict sectionsFrom

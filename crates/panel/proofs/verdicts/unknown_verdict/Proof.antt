@@ -1,3 +1,4 @@
+use mathlib.Core.Path.{_∙_}
 use Prim.Native.Nat.{_-_}
 use borrow.Author.Needs.{needs}
 use Rattle.panel.specs.Verdict.{unknownVerdict}
@@ -33,7 +34,7 @@ refused-requires : tie.Need-refused-requires Inv-loop μ-loop
 refused-requires c κs = search laws
 
 returns : tie.Need-returns Inv-loop μ-loop
-returns c = search laws
+returns c = c .refused .ensures ∙ search laws
 
 add-i : tie.Need-add-i Inv-loop μ-loop
 add-i c = search laws
