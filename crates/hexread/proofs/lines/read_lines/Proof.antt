@@ -5,7 +5,7 @@ use Rattle.hexread.specs.LinesLaws.{Reading, reading-first, reading-stop
 use Rattle.hexread.proofs.lines.read_lines.Statement.{statement}
 use Rattle.hexread.proofs.lines.read_lines.Tie as tie
 
-ruleset laws = (needs, reading-first, reading-stops, reading-refused, reading-done, reading-overrun, next-fits, start-fits, size-fits, start-less, reading-more)
+ruleset laws = (needs, reading-first, reading-stops, reading-done, reading-overrun, next-fits, start-fits, size-fits, start-less, reading-more)
 
 abbrev Inv-loop : tie.InvT-loop
 Inv-loop values text image₀ room start₀ size₀ line₀ image start size line = Reading text image₀ room image start size line
@@ -77,7 +77,7 @@ same-length-3 : tie.Need-same-length-3 Inv-loop μ-loop
 same-length-3 c = search laws
 
 returns-3 : tie.Need-returns-3 Inv-loop μ-loop
-returns-3 c = search laws
+returns-3 c = reading-refused _ _ _ _ _ _ _ (c .before .before .before .before .before .before .before .before .before .loop .inv) _ _ (search) (c .before .before .before .before .before .first-line .ensures) _ (search)
 
 same-length-4 : tie.Need-same-length-4 Inv-loop μ-loop
 same-length-4 c = search laws

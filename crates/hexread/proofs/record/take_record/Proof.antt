@@ -3,7 +3,7 @@ use Rattle.hexread.specs.RecordLaws.{taken-bad-high, taken-bad-low, take
 use Rattle.hexread.proofs.record.take_record.Statement.{statement}
 use Rattle.hexread.proofs.record.take_record.Tie as tie
 
-ruleset laws = (needs, taken-bad-high, taken-bad-low, taken-bad-kind, taken-bad-data, taken-bad-check, taken-bad-sum, taken-typed)
+ruleset laws = (needs, taken-bad-high, taken-bad-low, taken-bad-kind, taken-bad-data, taken-bad-check)
 
 pair-requires : tie.Need-pair-requires
 pair-requires c κs = search laws
@@ -69,7 +69,7 @@ same-length-3 : tie.Need-same-length-3
 same-length-3 c = search laws
 
 returns-6 : tie.Need-returns-6
-returns-6 c = search laws
+returns-6 c = taken-bad-sum _ _ (search) _ _ _ _ _ (search) (search) _ (search) (search) _ (search) (search) _ (search) (search) _ (search) (search) (c .if6 .taken)
 
 mul-judged : tie.Need-mul-judged
 mul-judged c = search laws
@@ -84,7 +84,7 @@ same-length-4 : tie.Need-same-length-4
 same-length-4 c = search laws
 
 returns-7 : tie.Need-returns-7
-returns-7 c = search laws
+returns-7 c = taken-typed _ _ (search) _ _ _ _ _ (search) (search) _ (search) (search) _ (search) (search) _ (search) (search) _ (search) (search) _ (c .before .if6 .left) (c .judged .ensures) (search) (search)
 
 pub take-record-spec : {M : Type 1} → statement M
 take-record-spec =
