@@ -14,15 +14,16 @@ ghost use Rattle.bodies.specs.Identity.{identityOf, identityVerdict, lea
 pub fn read_identity(body: &[u8]) -> Identity
     ensures { λ r. ⌜ r ≡ identityOf (now (body .entry)) ⌝ }
 {
+    // from the last field on: where it is there the compiler knows that the others are
     Identity {
-        serial: number4(body, 0),
-        year: number2(body, 4),
-        month: number1(body, 6),
-        day: number1(body, 7),
-        tmin: signed4(body, 8),
-        tmax: signed4(body, 12),
-        pmin: signed4(body, 16),
         pmax: signed4(body, 20),
+        pmin: signed4(body, 16),
+        tmax: signed4(body, 12),
+        tmin: signed4(body, 8),
+        day: number1(body, 7),
+        month: number1(body, 6),
+        year: number2(body, 4),
+        serial: number4(body, 0),
     }
 }
 

@@ -12,10 +12,11 @@ ghost use Rattle.bodies.specs.Trim.{trimOf, trimVerdict};
 pub fn read_trim(body: &[u8]) -> Trim
     ensures { λ r. ⌜ r ≡ trimOf (now (body .entry)) ⌝ }
 {
+    // from the last field on, as an identity
     Trim {
-        unit: number1(body, 0),
-        span: number4(body, 4),
         zero: signed8(body, 8),
+        span: number4(body, 4),
+        unit: number1(body, 0),
     }
 }
 

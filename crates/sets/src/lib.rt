@@ -32,15 +32,16 @@ pub struct Set {
 pub fn read_set(body: &[u8]) -> Set
     ensures { λ r. ⌜ r ≡ setOf (now (body .entry)) ⌝ }
 {
-    let pressure = Prescale {
-        order: number1(body, 2),
-        multiplier: number4(body, 4),
-        offset: number8(body, 8),
-    };
+    // from the last field on: where it is there the compiler knows that the others are
     let temperature = Prescale {
-        order: number1(body, 3),
-        multiplier: number4(body, 16),
         offset: number8(body, 20),
+        multiplier: number4(body, 16),
+        order: number1(body, 3),
+    };
+    let pressure = Prescale {
+        offset: number8(body, 8),
+        multiplier: number4(body, 4),
+        order: number1(body, 2),
     };
     Set {
         pressure,

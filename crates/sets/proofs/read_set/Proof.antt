@@ -3,23 +3,23 @@ use Rattle.sets.specs.SetLaws.{set-read}
 use Rattle.sets.proofs.read_set.Statement.{statement}
 use Rattle.sets.proofs.read_set.Tie as tie
 
-number1-requires : tie.Need-number1-requires
-number1-requires c κs = search needs
+number8-requires : tie.Need-number8-requires
+number8-requires c κs = search needs
 
 number4-requires : tie.Need-number4-requires
 number4-requires c κs = search needs
 
-number8-requires : tie.Need-number8-requires
-number8-requires c κs = search needs
+number1-requires : tie.Need-number1-requires
+number1-requires c κs = search needs
 
-number1-requires-2 : tie.Need-number1-requires-2
-number1-requires-2 c κs = search needs
+number8-requires-2 : tie.Need-number8-requires-2
+number8-requires-2 c κs = search needs
 
 number4-requires-2 : tie.Need-number4-requires-2
 number4-requires-2 c κs = search needs
 
-number8-requires-2 : tie.Need-number8-requires-2
-number8-requires-2 c κs = search needs
+number1-requires-2 : tie.Need-number1-requires-2
+number1-requires-2 c κs = search needs
 
 returns : tie.Need-returns
 returns c = search (needs, set-read)
@@ -28,10 +28,10 @@ pub read-set-spec : {M : Type 1} → statement M
 read-set-spec =
     tie.close
     (tie.spec
-    number1-requires
-    number4-requires
     number8-requires
-    number1-requires-2
-    number4-requires-2
+    number4-requires
+    number1-requires
     number8-requires-2
+    number4-requires-2
+    number1-requires-2
     returns)
