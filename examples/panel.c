@@ -14,11 +14,11 @@ static int refused(uint32_t number, uint64_t detail) {
 int main(int count, char **words) {
     static const char *const units[] = {"", "psi", "bar", "kPa"};
     FILE *file = count == 2 ? fopen(words[1], "rb") : NULL;
-    if (file == NULL) {
-        fprintf(stderr, "usage: panel FILE, with a HEX text in FILE\n");
+    size_t length = file == NULL ? 0 : fread(text, 1, sizeof text, file);
+    if (file == NULL || ferror(file)) {
+        fprintf(stderr, "panel: cannot read a HEX text; usage: panel FILE\n");
         return 2;
     }
-    size_t length = fread(text, 1, sizeof text, file);
     fclose(file);
     if (length == sizeof text)
         return refused(4, 0);

@@ -2,7 +2,8 @@
  *
  * Every call answers, whatever the bytes and numbers are. An answer's number is 0 on success. Any other is a refusal, which
  * docs/NUMBERS.md explains with its detail: the answer's other values are then 0, and the buffer lent for the result holds nothing
- * but zeros. On success such a buffer holds the result, as many bytes as the answer's length says, and zeros after it.
+ * but zeros. On success such a buffer holds the result, as many bytes as the answer's length says, and zeros after it. That length
+ * goes with the image into later calls, and not the size of its buffer. Only the answer of bjorkneve_find has no number.
  *
  * The caller owns and lends all memory. Nothing is allocated, and nothing is kept after a call. There is no state, so that calls may
  * run at the same time, each with a buffer of its own for the result. In one call the buffer for the result must not overlap
@@ -42,8 +43,8 @@ typedef struct {
 } BjorknevePlace;
 
 /* Number 0 and a reading: pressure in 1/65,536 of the unit (1 psi, 2 bar, 3 kPa), temperature in 1/65,536 degrees Celsius, and
- * the mark, 1 where the temperature lies outside the gauge's limits plus 2 where the pressure does. Else the refusal's number and
- * detail, and 0 for each value. */
+ * the mark, 1 where the temperature lies outside the gauge's limits plus 2 where the pressure does, in psi and before trim. Else
+ * the refusal's number and detail, and 0 for each value. */
 typedef struct {
     uint32_t number;
     uint64_t detail;
@@ -69,7 +70,8 @@ BjorkneveVerdict bjorkneve_layout(const uint8_t *image, size_t image_length);
 /* Judges an image as a panel of this level does. Refused 20, then 5 to 13, 15 or 16. */
 BjorkneveVerdict bjorkneve_verdict(const uint8_t *image, size_t image_length, uint32_t level);
 
-/* Finds the section of a kind. No kind is there in an image whose layout is refused. */
+/* Finds the section of a kind. No kind is there in an image whose layout is refused. The body of kind 1 begins with the gauge's
+ * serial number, 4 bytes, the lowest first. */
 BjorknevePlace bjorkneve_find(const uint8_t *image, size_t image_length, uint32_t kind);
 
 /* Builds an image of sections: section i has the kind kinds[i] and a body of lengths[i] bytes, and bodies are all of them joined.

@@ -66,7 +66,8 @@ pub extern "C" fn bjorkneve_verdict(image: &[u8], level: u32) -> ToldVerdict
     refusals::tell_verdict(panel::verdict(image, level))
 }
 
-// Finds the section of a kind. No kind is there in an image whose layout is refused.
+// Finds the section of a kind. No kind is there in an image whose layout is refused. The body of kind 1 begins with the gauge's
+// serial number, 4 bytes, the lowest first.
 #[no_mangle]
 pub extern "C" fn bjorkneve_find(image: &[u8], kind: u32) -> ToldPlace
     ensures { λ r. ⌜ r ≡ placeTold (placed (foundOffset (now (image .entry)) kind) (found (now (image .entry)) kind)) ⌝ }

@@ -4,7 +4,17 @@ use crate::lent::Lent;
 use crate::random::Random;
 use crate::tally::Answer;
 use bjorkneve::raw;
+use std::fmt;
 use std::ops::Range;
+
+/// Bytes as they are shown where a case fails.
+struct Hex<'a>(&'a [u8]);
+
+impl fmt::Display for Hex<'_> {
+    fn fmt(&self, f: &mut fmt::Formatter<'_>) -> fmt::Result {
+        self.0.iter().try_for_each(|byte| write!(f, "{byte:02X}"))
+    }
+}
 
 /// The lent buffers of the three calls: the archive's, the safe door's and
 /// the reference's. Their dirt differs, so dirt left behind is a difference.
@@ -19,6 +29,7 @@ impl Both {
     /// Reads a text into a buffer of this size.
     pub fn read(&mut self, text: &[u8], size: usize, random: &mut Random) -> Answer<usize> {
         self.fill(
+            format_args!("text {}", Hex(text)),
             size,
             random,
             |image| raw::read(text, image),
@@ -30,6 +41,7 @@ impl Both {
     /// Writes an image into a buffer of this size.
     pub fn write(&mut self, image: &[u8], size: usize, random: &mut Random) -> Answer<usize> {
         self.fill(
+            format_args!("image {}", Hex(image)),
             size,
             random,
             |text| raw::write(image, text),
@@ -47,6 +59,7 @@ impl Both {
         random: &mut Random,
     ) -> Answer<usize> {
         self.fill(
+            format_args!("level {level} text {}", Hex(text)),
             size,
             random,
             |image| raw::load(text, level, image),
@@ -65,6 +78,7 @@ impl Both {
         random: &mut Random,
     ) -> Answer<usize> {
         self.fill(
+            format_args!("kinds {kinds:?} lengths {lengths:?} bodies {}", Hex(bodies)),
             size,
             random,
             |image| raw::build(kinds, lengths, bodies, image),
@@ -80,6 +94,7 @@ impl Both {
 
     fn fill(
         &mut self,
+        given: fmt::Arguments<'_>,
         size: usize,
         random: &mut Random,
         archive: impl FnOnce(&mut [u8]) -> raw::BjorkneveFilled,
@@ -91,7 +106,7 @@ impl Both {
         let ours = door(self.door.lend(size, dirt ^ 0x42)).map_err(ours_refusal);
         let theirs = reference(self.reference.lend(size, dirt ^ 0x84)).map_err(their_refusal);
 
-        assert_eq!(ours, theirs, "ours, the reference's");
+        assert_eq!(ours, theirs, "ours, the reference's: size {size} {given}");
         assert_eq!(told.answer().map_err(ours_refusal), ours);
         match ours {
             Ok(_) => assert_eq!((told.number, told.detail), (0, 0)),
@@ -101,8 +116,14 @@ impl Both {
         self.archive.check(length);
         self.door.check(length);
         self.reference.check(length);
-        assert!(self.archive.part() == self.reference.part(), "content");
-        assert!(self.door.part() == self.reference.part(), "content");
+        assert!(
+            self.archive.part() == self.reference.part(),
+            "content: size {size} {given}"
+        );
+        assert!(
+            self.door.part() == self.reference.part(),
+            "content: size {size} {given}"
+        );
         ours
     }
 }
@@ -110,6 +131,7 @@ impl Both {
 /// Judges a layout.
 pub fn layout(image: &[u8]) -> Answer<()> {
     judged(
+        format_args!("image {}", Hex(image)),
         raw::layout(image),
         bjorkneve::layout(image),
         reference::layout(image),
@@ -119,6 +141,7 @@ pub fn layout(image: &[u8]) -> Answer<()> {
 /// Judges an image at a level.
 pub fn verdict(image: &[u8], level: u32) -> Answer<()> {
     judged(
+        format_args!("level {level} image {}", Hex(image)),
         raw::verdict(image, level),
         bjorkneve::verdict(image, level),
         reference::verdict(image, level),
@@ -129,7 +152,13 @@ pub fn verdict(image: &[u8], level: u32) -> Answer<()> {
 pub fn find(image: &[u8], kind: u32) -> Option<Range<usize>> {
     let told = raw::find(image, kind);
     let ours = bjorkneve::place(image, kind);
-    assert_eq!(ours, reference::find(image, kind), "ours, the reference's");
+    let theirs = reference::find(image, kind);
+    assert_eq!(
+        ours,
+        theirs,
+        "ours, the reference's: kind {kind} image {}",
+        Hex(image)
+    );
     assert_eq!(told.range(), ours);
     assert_eq!(told.there, ours.is_some());
     let body = bjorkneve::find(image, kind);
@@ -163,7 +192,12 @@ pub fn reading(image: &[u8], level: u32, counts: reference::Counts) -> Answer<re
         })
         .map_err(ours_refusal);
     let theirs = reference::reading(image, level, counts).map_err(their_refusal);
-    assert_eq!(ours, theirs, "ours, the reference's");
+    assert_eq!(
+        ours,
+        theirs,
+        "ours, the reference's: level {level} {counts:?} image {}",
+        Hex(image)
+    );
     let values = (told.pressure, told.temperature, told.unit, told.mark);
     match &ours {
         Ok(reading) => {
@@ -185,12 +219,14 @@ pub fn reading(image: &[u8], level: u32, counts: reference::Counts) -> Answer<re
 }
 
 fn judged(
+    given: fmt::Arguments<'_>,
     told: raw::BjorkneveVerdict,
     ours: Result<(), bjorkneve::Refusal>,
     theirs: Result<(), reference::Refusal>,
 ) -> Answer<()> {
     let ours = ours.map_err(ours_refusal);
-    assert_eq!(ours, theirs.map_err(their_refusal), "ours, the reference's");
+    let theirs = theirs.map_err(their_refusal);
+    assert_eq!(ours, theirs, "ours, the reference's: {given}");
     assert_eq!((told.number, told.detail), ours.err().unwrap_or((0, 0)));
     ours
 }
