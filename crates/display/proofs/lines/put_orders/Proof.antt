@@ -3,8 +3,6 @@ use Rattle.display.specs.WordsLaws.{printed-then}
 use Rattle.display.proofs.lines.put_orders.Statement.{statement}
 use Rattle.display.proofs.lines.put_orders.Tie as tie
 
-ruleset laws = (needs, printed-then)
-
 cast-put-field : tie.Need-cast-put-field
 cast-put-field c = search needs
 
@@ -24,7 +22,8 @@ same-length : tie.Need-same-length
 same-length c = search needs
 
 returns : tie.Need-returns
-returns c = search laws
+returns c =
+    (printed-then _ _ _ _ _ _ _ _ (c .before .before .before .before .before .before .before .before .put-field .ensures .0) (c .before .before .put-field2 .ensures .0), search needs)
 
 pub put-orders-spec : {M : Type 1} → statement M
 put-orders-spec =
