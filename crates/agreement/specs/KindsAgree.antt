@@ -1,0 +1,111 @@
+-- The body of a kind among an image's sections is document 01's: the bytes that the kind's contents line states.
+use mathlib.Core.Path.{_≡_, refl, sym, ap, _∙_}
+use mathlib.Core.Bool.{Bool, true, false}
+use mathlib.Core.List.{List}
+use mathlib.Core.Option.{Option, none, some}
+use Prim.Native.Nat.{ℕ, zero, suc, _+_, _≤_, _<_}
+use native.Mathlib.Omega.{arith}
+use borrow.Author.Tests.{eqb-true, eq-eqb, ne-eqb}
+use lib.Dec.{eqb}
+use Rattle.paper.specs.Words.{Not}
+use Rattle.paper.specs.Image.{HasKind, HasBody}
+use Rattle.laws.specs.Cases.{split, decide}
+use Rattle.refusals.specs.declared.Verdict.the-variants.{Accepted}
+use Rattle.image.specs.Layout.{lineCount, kindAt, bodyAt, layoutVerdict}
+use Rattle.image.specs.Sections.{sectionsFrom, sections}
+use Rattle.image.specs.Find.{bodyOf, isThere}
+use Rattle.image.specs.OrderLaws.{Ascending, sections-ascend}
+use Rattle.agreement.specs.TestsLaws.{Passes}
+use Rattle.agreement.specs.FieldsAgree.{number-same}
+
+-- kinds after a line are above those before it
+pub later-above : (image : List ℕ) (left i previous line : ℕ) → Ascending previous (sectionsFrom image left i) → i ≤ line → line < i + left
+    → previous < kindAt image line
+unfolding sectionsFrom
+later-above image zero i previous line rising h k = absurd (omega arith)
+later-above image (suc left) i previous line rising h k =
+    split line i
+    (λ (l : line ≤ i). let same : line ≡ i = omega arith in rw same (rising .0))
+    (λ (l : i < line).
+    let up = later-above image left (i + 1) (kindAt image i) line (rising .1) (omega arith) (omega arith) in
+    omega (arith, rising .0))
+
+module _ (image : List ℕ) (kind : ℕ) where
+  record At (left i : ℕ) (body : List ℕ) : Type 0 where
+    line : ℕ
+    below : line < i + left
+    named : kindAt image line ≡ kind
+    is : body ≡ bodyAt image line
+
+  at-of : (left i : ℕ) (body : List ℕ) → bodyOf kind (sectionsFrom image left i) ≡ some body → At left i body
+  unfolding bodyOf sectionsFrom
+  at-of zero i body e = let n : _≡_ {A = ℕ} 0 1 = cc in absurd (omega arith)
+  at-of (suc left) i body e =
+      decide (eqb kind (kindAt image i))
+      (λ (t : eqb kind (kindAt image i) ≡ true).
+      let same : bodyAt image i ≡ body = cc (rw t at e) in
+      record { line = i; below = omega arith; named = sym (eqb-true kind (kindAt image i) t); is = sym same })
+      (λ (f : eqb kind (kindAt image i) ≡ false).
+      let a = at-of left (i + 1) body (rw f at e) in
+      record { line = a .line; below = omega (arith, a .below); named = a .named; is = a .is })
+
+  of-at : (left i previous line : ℕ) → Ascending previous (sectionsFrom image left i) → i ≤ line → line < i + left → kindAt image line ≡ kind
+      → bodyOf kind (sectionsFrom image left i) ≡ some (bodyAt image line)
+  unfolding bodyOf sectionsFrom
+  of-at zero i previous line rising h k e = absurd (omega arith)
+  of-at (suc left) i previous line rising h k e =
+      split line i
+      (λ (l : line ≤ i).
+      let same : line ≡ i = omega arith in
+      let named : kind ≡ kindAt image i = rw same at (sym e) in
+      rw (eq-eqb kind (kindAt image i) named, same))
+      (λ (l : i < line).
+      let up = later-above image left (i + 1) (kindAt image i) line (rising .1) (omega arith) (omega arith) in
+      rw (ne-eqb kind (kindAt image i) (λ q. omega arith)) (of-at left (i + 1) (kindAt image i) line (rising .1) (omega arith) (omega arith) e))
+
+  -- a body that is found is one that the image has, whatever the layout,
+  pub found-is-had : (body : List ℕ) → bodyOf kind (sections image) ≡ some body → HasBody image kind body
+  unfolding sections
+  found-is-had body e =
+      let a = at-of (lineCount image) 0 body e in
+      record {
+        has = record { line = a .line; there = rw number-same (omega (arith, a .below)); named = rw number-same (a .named) };
+        is = rw number-same (a .is);
+      }
+
+  pub none-had : Not (HasKind image kind) → bodyOf kind (sections image) ≡ none
+  none-had f = by (bodyOf kind (sections image)) refl
+    where
+      by : (o : Option (List ℕ)) → bodyOf kind (sections image) ≡ o → o ≡ none
+      by none e = refl
+      by (some body) e = absurd (f (found-is-had body e .has))
+
+  -- and the other way round in a good layout, whose kinds rise
+  module _ (good : layoutVerdict image ≡ Accepted) where
+    kind-found : (h : HasKind image kind) → bodyOf kind (sections image) ≡ some (bodyAt image (h .line))
+    unfolding sections
+    kind-found h =
+        of-at (lineCount image) 0 0 (h .line) (sections-ascend image good) (omega arith) (omega (arith, rw number-same at (h .there)))
+        (rw number-same at (h .named))
+
+    pub had-is-found : (body : List ℕ) → HasBody image kind body → bodyOf kind (sections image) ≡ some body
+    had-is-found body h = kind-found (h .has) ∙ ap some (sym (rw number-same at (h .is)))
+
+    -- so a kind has one body
+    pub body-once : (body body′ : List ℕ) → HasBody image kind body → HasBody image kind body′ → body ≡ body′
+    body-once body body′ h h′ = cc (had-is-found body h, had-is-found body′ h′)
+
+    pub there-passes : Passes (isThere (bodyOf kind (sections image))) (HasKind image kind)
+    there-passes = by (bodyOf kind (sections image)) refl
+      where
+        by : (o : Option (List ℕ)) → bodyOf kind (sections image) ≡ o → Passes (isThere o) (HasKind image kind)
+        by none e =
+            record {
+              yes = λ f. let n : _≡_ {A = Bool} true false = cc in let z : _≡_ {A = ℕ} 0 1 = cc in absurd (omega arith);
+              no = λ f h. let z : _≡_ {A = ℕ} 0 1 = cc (e, kind-found h) in omega arith;
+            }
+        by (some body) e =
+            record {
+              yes = λ f. found-is-had body e .has;
+              no = λ f h. let n : _≡_ {A = Bool} true false = cc in let z : _≡_ {A = ℕ} 0 1 = cc in omega arith;
+            }

@@ -1,0 +1,5 @@
+pub mod TableLaws
+pub mod TestsLaws
+pub mod FieldsAgree
+pub mod NearestLaws
+pub mod KindsAgree

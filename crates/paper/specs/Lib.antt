@@ -1,0 +1,10 @@
+pub mod Words
+pub mod Fields
+pub mod Table
+pub mod Writer
+pub mod Image
+pub mod Bodies
+pub mod Verdict
+pub mod Builder
+pub mod Reading
+pub mod ReadingTable
