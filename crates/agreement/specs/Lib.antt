@@ -3,3 +3,7 @@ pub mod TestsLaws
 pub mod FieldsAgree
 pub mod NearestLaws
 pub mod KindsAgree
+pub mod ValueLaws
+pub mod FrequencyAgrees
+pub mod SumLaws
+pub mod ChainLaws

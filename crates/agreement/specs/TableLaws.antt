@@ -29,19 +29,23 @@ pub judged-alone : (r : Row) (v : Verdict) → Judges r v → Gives (r ∷ []) v
 judged-alone r Accepted j = (j, tt)
 judged-alone r (Refused q) j = inl j
 
-none-then : (rows more : List Row) (w : Verdict) → NoneGiven rows → Gives more w → Gives (rows ++ more) w
-none-then [] more w n g = g
-none-then (r ∷ rows) more Accepted n g = (n .0, none-then rows more Accepted (n .1) g)
-none-then (r ∷ rows) more (Refused q) n g = inr (n .0, none-then rows more (Refused q) (n .1) g)
+pub none-append : (rows more : List Row) → NoneGiven rows → NoneGiven more → NoneGiven (rows ++ more)
+none-append [] more n m = m
+none-append (r ∷ rows) more n m = (n .0, none-append rows more (n .1) m)
 
-first-stays : (rows more : List Row) (number detail : ℕ) → FirstGiven rows number detail → FirstGiven (rows ++ more) number detail
+pub first-append : (rows more : List Row) (number detail : ℕ) → NoneGiven rows → FirstGiven more number detail → FirstGiven (rows ++ more) number detail
+first-append [] more number detail n f = f
+first-append (r ∷ rows) more number detail n f = inr (n .0, first-append rows more number detail (n .1) f)
+
+pub first-stays : (rows more : List Row) (number detail : ℕ) → FirstGiven rows number detail → FirstGiven (rows ++ more) number detail
 first-stays [] more number detail f = absurd f
 first-stays (r ∷ rows) more number detail (inl g) = inl g
 first-stays (r ∷ rows) more number detail (inr (n, f)) = inr (n, first-stays rows more number detail f)
 
 -- some checks, then others
 pub gives-append : (rows more : List Row) (v w : Verdict) → Gives rows v → (v ≡ Accepted → Gives more w) → Gives (rows ++ more) (andThen v w)
-gives-append rows more Accepted w g f = none-then rows more w g (f refl)
+gives-append rows more Accepted Accepted g f = none-append rows more g (f refl)
+gives-append rows more Accepted (Refused q) g f = first-append rows more (q .number) (q .detail) g (f refl)
 gives-append rows more (Refused q) w g f = first-stays rows more (q .number) (q .detail) g
 
 -- one check, then the others

@@ -54,6 +54,12 @@ module _ (body : List ℕ) where
   abbrev pub RowsFrom : (xp xt : ℤ) → (row : ℕ) → (z : ℤ) → Type 0
   RowsFrom xp xt row z = Sum xp (λ (r : ℕ) (c : ℤ). RowFrom xt r 0 c) (pressureOrder body - row) row z
 
+  -- a running sum: of a row from one of its places on, or of the rows from one of them on
+  abbrev pub RunningSum : (xp xt z : ℤ) → Type 0
+  RunningSum xp xt z =
+      ((row place : ℕ) × (row ≤ pressureOrder body) × (place ≤ temperatureOrder body) × RowFrom xt row place z)
+      ⊎ ((row : ℕ) × (row ≤ pressureOrder body) × RowsFrom xp xt row z)
+
   -- "Both sets use both frequencies, each set its own prescale."
   pub record Result (fp ft z : ℤ) : Type 0 where
     pub xp : ℤ

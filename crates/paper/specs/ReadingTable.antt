@@ -12,7 +12,7 @@ use Rattle.paper.specs.Table.{Row, row}
 use Rattle.paper.specs.Image.{HasBody}
 use Rattle.paper.specs.Bodies.{pressureOrder, temperatureOrder}
 use Rattle.paper.specs.Verdict.{verdictTable}
-use Rattle.paper.specs.Reading.{Counts, Frequency, Prescaled, IsXP, IsXT, RowFrom, RowsFrom}
+use Rattle.paper.specs.Reading.{Counts, Frequency, Prescaled, IsXP, IsXT, RowsFrom, RunningSum}
 
 -- "NS 0 or above 1,048,576; NR 0; F outside 655,360,000 to 6,553,600,000"; the channel is 1 for pressure, 2 for temperature
 abbrev pub channelTable : (channel ns nr : ℕ) → List Row
@@ -30,14 +30,9 @@ module _ (body : List ℕ) (fp ft : ℤ) where
   abbrev pub XTBeyond : Type 0
   XTBeyond = (1 ≤ temperatureOrder body) × ((x : ℤ) × Prescaled (number 4 body 16) (number 8 body 20) ft x × Beyond (2 ^ 24) x)
 
-  -- "running sum beyond 500,000,000,000 either side": of a row from one of its places on, or of the rows from one of them on
-  abbrev pub RunningSum : (xp xt z : ℤ) → Type 0
-  RunningSum xp xt z =
-      ((r place : ℕ) × (r ≤ pressureOrder body) × (place ≤ temperatureOrder body) × RowFrom body xt r place z)
-      ⊎ ((r : ℕ) × (r ≤ pressureOrder body) × RowsFrom body xp xt r z)
-
+  -- "running sum beyond 500,000,000,000 either side"
   abbrev pub SumBeyond : Type 0
-  SumBeyond = (xp xt z : ℤ) × IsXP body fp xp × IsXT body ft xt × RunningSum xp xt z × Beyond 500000000000 z
+  SumBeyond = (xp xt z : ℤ) × IsXP body fp xp × IsXT body ft xt × RunningSum body xp xt z × Beyond 500000000000 z
 
   -- "set's result beyond 2^31 either side"
   abbrev pub ResultBeyond : Type 0
