@@ -26,6 +26,12 @@ unfoldable pub chain : (kind : ℕ) → (x : ℤ) → (values : ℕ → Value) �
 chain kind x values zero i = Known (pos 0)
 chain kind x values (suc left) i = withValue (chain kind x values left (i + 1)) (λ sum. withValue (values i) (λ c. stepOf kind x c sum))
 
+-- zeros come to 0
+pub zeros-chain : (kind : ℕ) (x : ℤ) (values : ℕ → Value) → ((i : ℕ) → values i ≡ Known (pos 0)) → (left i : ℕ) → chain kind x values left i ≡ Known (pos 0)
+unfolding chain stepOf within
+zeros-chain kind x values zeros zero i = refl
+zeros-chain kind x values zeros (suc left) i = rw (zeros-chain kind x values zeros left (i + 1), zeros i, nothing-turned x)
+
 -- of the values 0 to `last` each is its term, and Good, or it is refused 25, and Bad; after them come zeros
 module _ (kind : ℕ) (x : ℤ) (last : ℕ) (Term : ℕ → ℤ → Type 0) (once : (i : ℕ) (c d : ℤ) → Term i c → Term i d → c ≡ d) (Good Bad : ℕ → Type 0) where
   abbrev pub TermGives : (i : ℕ) → Value → Type 0

@@ -7,3 +7,4 @@ pub mod ValueLaws
 pub mod FrequencyAgrees
 pub mod SumLaws
 pub mod ChainLaws
+pub mod SetAgrees
