@@ -44,21 +44,25 @@ module _ (channel ns nr : ℕ) where
   reference-fails : Fails (leb 1 nr) (nr ≡ 0)
   reference-fails = fails-as (λ h. omega arith) (λ h. omega arith) (fails-le 1 nr)
 
-  pub frequency-gives : ValueGives (channelTable channel ns nr) (λ (f : ℤ). Frequency ns nr f) (frequencyOf channel ns nr)
+  -- what is known has some reference cycles
+  abbrev pub Counted : (f : ℤ) → Type 0
+  Counted f = (1 ≤ nr) × Frequency ns nr f
+
+  pub frequency-gives : ValueGives (channelTable channel ns nr) Counted (frequencyOf channel ns nr)
   unfolding frequencyOf
   frequency-gives =
       let row22 = row 22 channel (nr ≡ 0) in
       let row23 = row 23 channel FrequencyOutside in
       let inLimits = leZ (pos 655360000) (hertz ns nr) && leZ (hertz ns nr) (pos 6553600000) in
       let known = Known (hertz ns nr) in
-      given-then (row 21 channel (Outside 1 1048576 ns)) (row22 ∷ row23 ∷ []) (λ (f : ℤ). Frequency ns nr f) (ask (leb 1 ns && leb ns 1048576) 21 channel)
+      given-then (row 21 channel (Outside 1 1048576 ns)) (row22 ∷ row23 ∷ []) Counted (ask (leb 1 ns && leb ns 1048576) 21 channel)
       (given (ask (leb 1 nr) 22 channel) (given (ask inLimits 23 channel) known))
       (ask-judges 21 channel (leb 1 ns && leb ns 1048576) (fails-outside 1 1048576 ns))
-      (λ a. given-then row22 (row23 ∷ []) (λ (f : ℤ). Frequency ns nr f) (ask (leb 1 nr) 22 channel) (given (ask inLimits 23 channel) known)
+      (λ a. given-then row22 (row23 ∷ []) Counted (ask (leb 1 nr) 22 channel) (given (ask inLimits 23 channel) known)
       (ask-judges 22 channel (leb 1 nr) reference-fails)
       (λ b.
       let h = leb-true 1 nr (asked (leb 1 nr) 22 channel b) in
-      given-then row23 [] (λ (f : ℤ). Frequency ns nr f) (ask inLimits 23 channel) known (ask-judges 23 channel inLimits (hertz-fails h)) (λ c. (tt, hertz-nearest h))))
+      given-then row23 [] Counted (ask inLimits 23 channel) known (ask-judges 23 channel inLimits (hertz-fails h)) (λ c. (tt, (h, hertz-nearest h)))))
 
 -- ---- X
 

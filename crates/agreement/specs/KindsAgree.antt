@@ -1,7 +1,7 @@
 -- The body of a kind among an image's sections is document 01's: the bytes that the kind's contents line states.
 use mathlib.Core.Path.{_≡_, refl, sym, ap, _∙_}
 use mathlib.Core.Bool.{Bool, true, false}
-use mathlib.Core.List.{List}
+use mathlib.Core.List.{List, []}
 use mathlib.Core.Option.{Option, none, some}
 use Prim.Native.Nat.{ℕ, zero, suc, _+_, _≤_, _<_}
 use native.Mathlib.Omega.{arith}
@@ -13,7 +13,7 @@ use Rattle.laws.specs.Cases.{split, decide}
 use Rattle.refusals.specs.declared.Verdict.the-variants.{Accepted}
 use Rattle.image.specs.Layout.{lineCount, kindAt, bodyAt, layoutVerdict}
 use Rattle.image.specs.Sections.{sectionsFrom, sections}
-use Rattle.image.specs.Find.{bodyOf, isThere}
+use Rattle.image.specs.Find.{bodyOf, isThere, orElse}
 use Rattle.image.specs.OrderLaws.{Ascending, sections-ascend}
 use Rattle.agreement.specs.TestsLaws.{Passes}
 use Rattle.agreement.specs.FieldsAgree.{number-same}
@@ -90,6 +90,12 @@ module _ (image : List ℕ) (kind : ℕ) where
 
     pub had-is-found : (body : List ℕ) → HasBody image kind body → bodyOf kind (sections image) ≡ some body
     had-is-found body h = kind-found (h .has) ∙ ap some (sym (rw number-same at (h .is)))
+
+    pub body-there : HasKind image kind → HasBody image kind (orElse [] (bodyOf kind (sections image)))
+    body-there h = let e = kind-found h in rw e (found-is-had (bodyAt image (h .line)) e)
+
+    pub none-found : bodyOf kind (sections image) ≡ none → Not (HasKind image kind)
+    none-found e h = let z : _≡_ {A = ℕ} 0 1 = cc (e, kind-found h) in omega arith
 
     -- so a kind has one body
     pub body-once : (body body′ : List ℕ) → HasBody image kind body → HasBody image kind body′ → body ≡ body′

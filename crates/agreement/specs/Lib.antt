@@ -8,3 +8,5 @@ pub mod FrequencyAgrees
 pub mod SumLaws
 pub mod ChainLaws
 pub mod SetAgrees
+pub mod ShownAgrees
+pub mod ReadingAgrees
