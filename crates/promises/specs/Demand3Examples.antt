@@ -27,8 +27,8 @@ use Rattle.reading.specs.declared.Reading.{Reading}
 use Rattle.reading.specs.declared.Answer.the-variants.{Shown, Refused}
 use Rattle.reading.specs.Value.{within}
 use Rattle.reading.specs.Frequency.{hertz, frequencyOf, scaledOf, prescaledOf}
-use Rattle.reading.specs.Polynomial.{stepOf, rowSum, rowStep, gridSum, gridResult, resultFromXp, setResult}
-use Rattle.reading.specs.Measured.{outside, markOf, trimmedBy, shownBy, fromPressure, fromFrequencies, fromPressureFrequency, measuredOf}
+use Rattle.reading.specs.Polynomial.{stepOf, rowSum, gridSum, setResult}
+use Rattle.reading.specs.Measured.{outside, markOf, trimmedBy, shownBy, measuredOf}
 use Rattle.panel.specs.Levels.{isLevel, knows}
 use Rattle.panel.specs.Verdict.{unknownVerdict, missingVerdict, kindVerdict, bodyVerdict, bodiesVerdict, sectionsVerdict, verdictOf}
 use Rattle.panel.specs.Reading.{sectionsReading, readingOf}
@@ -148,11 +148,11 @@ module _ (ss : List Section) (fit : Fit ss) (right : sectionsVerdict 2 ss ≡ Ac
   shown-at-two = rw (accepted 2 ss refl fit right, sections-of-image ss) reads
 
 three-read : sectionsReading threeSections exampleCounts ≡ Shown exampleReading
-unfolding littleEndian numberAt twosComplement rounded bodyOf identityOf setOf rowFrom rowsFrom within hertz frequencyOf scaledOf prescaledOf stepOf rowSum rowStep gridSum gridResult resultFromXp setResult outside markOf shownBy fromPressure fromFrequencies fromPressureFrequency measuredOf sectionsReading
+unfolding littleEndian numberAt twosComplement rounded bodyOf identityOf setOf rowFrom rowsFrom within hertz frequencyOf scaledOf prescaledOf stepOf rowSum gridSum setResult outside markOf shownBy measuredOf sectionsReading
 three-read = refl
 
 four-read : sectionsReading fourSections exampleCounts ≡ Shown exampleReading
-unfolding littleEndian numberAt twosComplement rounded bodyOf identityOf setOf rowFrom rowsFrom trimOf within hertz frequencyOf scaledOf prescaledOf stepOf rowSum rowStep gridSum gridResult resultFromXp setResult outside markOf trimmedBy shownBy fromPressure fromFrequencies fromPressureFrequency measuredOf sectionsReading
+unfolding littleEndian numberAt twosComplement rounded bodyOf identityOf setOf rowFrom rowsFrom trimOf within hertz frequencyOf scaledOf prescaledOf stepOf rowSum gridSum setResult outside markOf trimmedBy shownBy measuredOf sectionsReading
 four-read = refl
 
 -- without kind 4 both levels show the reading

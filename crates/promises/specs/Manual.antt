@@ -14,7 +14,7 @@ use Rattle.reading.specs.declared.Answer.the-variants.{Shown}
 use Rattle.reading.specs.declared.value.Value.the-variants.{Known}
 use Rattle.reading.specs.Frequency.{frequencyOf}
 use Rattle.reading.specs.Measured.{markOf, shownBy}
-use Rattle.reading.specs.NestedLaws.{ByManual}
+use Rattle.reading.specs.Nested.{ByManual}
 use Rattle.panel.specs.Reading.{bodyIn, trimmingOf}
 
 pub record ReadByManual (image : List ℕ) (counts : Counts) (reading : Reading) : Type 0 where

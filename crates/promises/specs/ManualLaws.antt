@@ -16,7 +16,7 @@ use Rattle.reading.specs.declared.value.Value.{Value}
 use Rattle.reading.specs.declared.value.Value.the-variants.{Known, Refused}
 use Rattle.reading.specs.Frequency.{frequencyOf}
 use Rattle.reading.specs.Polynomial.{setResult}
-use Rattle.reading.specs.Measured.{andShow, fromPressure, fromFrequencies, fromPressureFrequency, measuredOf}
+use Rattle.reading.specs.Measured.{andShow, measuredOf}
 use Rattle.reading.specs.NestedLaws.{result-of-manual}
 use Rattle.panel.specs.Reading.{bodyIn, sectionsReading, afterVerdict}
 use Rattle.promises.specs.Manual.{ReadByManual}
@@ -33,7 +33,7 @@ before (Refused r) next reading e = let n : _≡_ {A = ℕ} 0 1 = cc in absurd (
 
 pub sections-by-manual : (image : List ℕ) (counts : Counts) (reading : Reading) → sectionsReading (sections image) counts ≡ Shown reading
     → ReadByManual image counts reading
-unfolding sectionsReading measuredOf fromPressureFrequency fromFrequencies fromPressure
+unfolding sectionsReading measuredOf
 sections-by-manual image counts reading e =
     let b = before (frequencyOf 1 (counts .pressure .sensor .0) (counts .pressure .reference .0)) _ reading e in
     let c = before (frequencyOf 2 (counts .temperature .sensor .0) (counts .temperature .reference .0)) _ reading (b .then-shown) in

@@ -15,8 +15,8 @@ use Rattle.reading.specs.declared.Counts.{Counts}
 use Rattle.reading.specs.declared.Trimming.{Trimming}
 use Rattle.reading.specs.declared.value.Value.the-variants.{Known}
 use Rattle.reading.specs.Frequency.{hertz, frequencyOf, scaledOf, prescaledOf}
-use Rattle.reading.specs.Polynomial.{stepOf, rowSum, rowStep, gridSum, gridResult, resultFromXp, setResult}
-use Rattle.reading.specs.Measured.{shownBy, fromPressure, fromFrequencies, fromPressureFrequency, measuredOf}
+use Rattle.reading.specs.Polynomial.{stepOf, rowSum, gridSum, setResult}
+use Rattle.reading.specs.Measured.{shownBy, measuredOf}
 use Rattle.promises.specs.RefusalRows.{CountsRow, cycles, reference, frequency, scaled, sum, result}
 use Rattle.promises.specs.RowsLaws.{ValueBy, AnswerBy, ask-by, given-by, with-by, within-by, show-by}
 
@@ -47,13 +47,13 @@ module _ (Row : (number detail : ℕ) → Type 0) (row : (number detail : ℕ) �
     row-by x (c ∷ cs) = with-by Row (rowSum kind x cs) _ (row-by x cs) (λ s. step-by x c s)
 
     grid-by : (xp xt : ℤ) (rows : List (List ℤ)) → ValueBy Row (gridSum kind xp xt rows)
-    unfolding gridSum rowStep
+    unfolding gridSum
     grid-by xp xt [] = tt
     grid-by xp xt (cs ∷ rows) =
         with-by Row (gridSum kind xp xt rows) _ (grid-by xp xt rows) (λ s. with-by Row (rowSum kind xt cs) _ (row-by xt cs) (λ c. step-by xp c s))
 
     set-by : (first : ℕ) (set : Set) (grid : List (List ℤ)) (fp ft : ℤ) → 1 ≤ first → first ≤ 3 → ValueBy Row (setResult kind first set grid fp ft)
-    unfolding setResult resultFromXp gridResult
+    unfolding setResult
     set-by first set grid fp ft low high =
         with-by Row (prescaledOf first (set .pressure) fp) _ (prescaled-by first (set .pressure) fp low (omega arith))
         (λ xp. with-by Row (prescaledOf (first + 1) (set .temperature) ft) _ (prescaled-by (first + 1) (set .temperature) ft (omega arith) (omega arith))
@@ -63,7 +63,7 @@ module _ (Row : (number detail : ℕ) → Type 0) (row : (number detail : ℕ) �
   pub measured-by : (trimming : Trimming) → ((pressure temperature : ℤ) (mark : ℕ) → AnswerBy Row (shownBy trimming pressure temperature mark))
       → (counts : Counts) (identity : Identity) (pressureSet : Set) (pressureGrid : List (List ℤ)) (temperatureSet : Set) (temperatureGrid : List (List ℤ))
       → AnswerBy Row (measuredOf counts identity pressureSet pressureGrid temperatureSet temperatureGrid trimming)
-  unfolding measuredOf fromPressureFrequency fromFrequencies fromPressure
+  unfolding measuredOf
   measured-by trimming shown counts identity pressureSet pressureGrid temperatureSet temperatureGrid =
       show-by Row (frequencyOf 1 _ _) _ (frequency-by 1 _ _ (omega arith) (omega arith))
       (λ fp. show-by Row (frequencyOf 2 _ _) _ (frequency-by 2 _ _ (omega arith) (omega arith))

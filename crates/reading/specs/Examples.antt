@@ -8,7 +8,7 @@ use Rattle.refusals.specs.Refusals.{refusal}
 use Rattle.reading.specs.declared.value.Value.the-variants.{Known, Refused}
 use Rattle.reading.specs.Value.{within}
 use Rattle.reading.specs.Frequency.{hertz, frequencyOf, scaledOf}
-use Rattle.reading.specs.Polynomial.{stepOf, rowSum, rowStep, gridSum}
+use Rattle.reading.specs.Polynomial.{stepOf, rowSum, gridSum}
 use Rattle.reading.specs.Measured.{trimmedBy}
 
 pub frequency-whole : frequencyOf 1 10000 2000000 ≡ Known (pos 2359296000)
@@ -63,7 +63,7 @@ unfolding rowSum stepOf within rounded
 second-row = refl
 
 pub both-rows : gridSum 2 (pos (2 ^ 23)) (negℤ (pos (2 ^ 23))) (firstRow ∷ secondRow ∷ []) ≡ Known (pos 6586368)
-unfolding gridSum rowStep rowSum stepOf within rounded
+unfolding gridSum rowSum stepOf within rounded
 both-rows = refl
 
 -- 1,000 psi in bar

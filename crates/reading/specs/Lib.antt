@@ -4,6 +4,8 @@ pub mod Polynomial
 pub mod Measured
 pub mod Paper
 pub mod Told
+pub mod PolynomialCuts
+pub mod MeasuredCuts
 pub mod ValueLaws
 pub mod FrequencyLaws
 pub mod PolynomialLaws

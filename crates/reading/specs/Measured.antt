@@ -10,7 +10,6 @@ use Rattle.refusals.specs.Refusals.{refusal}
 use Rattle.bodies.specs.declared.Identity.{Identity}
 use Rattle.sets.specs.declared.Set.{Set}
 use Rattle.bodies.specs.declared.Trim.{Trim}
-use Rattle.reading.specs.declared.Channel.{Channel}
 use Rattle.reading.specs.declared.Counts.{Counts}
 use Rattle.reading.specs.declared.Answer.{Answer}
 use Rattle.reading.specs.declared.Answer.the-variants.{Shown, Refused}
@@ -47,24 +46,13 @@ abbrev pub andShow : Value → (ℤ → Answer) → Answer
 andShow (Known z) next = next z
 andShow (NotKnown r) next = Refused r
 
--- the pressure's frequency, then the temperature's, then the pressure set, then the temperature set: from what is known so far
--- to the answer, the last step first
-unfoldable pub fromPressure : (pressure fp ft : ℤ) → Identity → (temperatureSet : Set) → (temperatureGrid : List (List ℤ)) → Trimming → Answer
-fromPressure pressure fp ft identity temperatureSet temperatureGrid trimming =
-    andShow (setResult 3 3 temperatureSet temperatureGrid fp ft)
-    (λ temperature. shownBy trimming pressure temperature (markOf identity pressure temperature))
-
-unfoldable pub fromFrequencies : (fp ft : ℤ) → Identity → (pressureSet : Set) → (pressureGrid : List (List ℤ)) → (temperatureSet : Set) → (temperatureGrid : List (List ℤ)) → Trimming → Answer
-fromFrequencies fp ft identity pressureSet pressureGrid temperatureSet temperatureGrid trimming =
-    andShow (setResult 2 1 pressureSet pressureGrid fp ft)
-    (λ pressure. fromPressure pressure fp ft identity temperatureSet temperatureGrid trimming)
-
-unfoldable pub fromPressureFrequency : (fp : ℤ) → (temperature : Channel) → Identity → (pressureSet : Set) → (pressureGrid : List (List ℤ)) → (temperatureSet : Set) → (temperatureGrid : List (List ℤ)) → Trimming → Answer
-fromPressureFrequency fp temperature identity pressureSet pressureGrid temperatureSet temperatureGrid trimming =
-    andShow (frequencyOf 2 (temperature .sensor .0) (temperature .reference .0))
-    (λ ft. fromFrequencies fp ft identity pressureSet pressureGrid temperatureSet temperatureGrid trimming)
-
-unfoldable pub measuredOf : Counts → Identity → (pressureSet : Set) → (pressureGrid : List (List ℤ)) → (temperatureSet : Set) → (temperatureGrid : List (List ℤ)) → Trimming → Answer
+-- the frequency of the pressure channel, then of the temperature channel, then the pressure set, then the temperature set, then
+-- what is shown
+unfoldable pub measuredOf : Counts → Identity → (pressureSet : Set) → (pressureGrid : List (List ℤ)) → (temperatureSet : Set)
+    → (temperatureGrid : List (List ℤ)) → Trimming → Answer
 measuredOf counts identity pressureSet pressureGrid temperatureSet temperatureGrid trimming =
     andShow (frequencyOf 1 (counts .pressure .sensor .0) (counts .pressure .reference .0))
-    (λ fp. fromPressureFrequency fp (counts .temperature) identity pressureSet pressureGrid temperatureSet temperatureGrid trimming)
+    (λ fp. andShow (frequencyOf 2 (counts .temperature .sensor .0) (counts .temperature .reference .0))
+    (λ ft. andShow (setResult 2 1 pressureSet pressureGrid fp ft)
+    (λ pressure. andShow (setResult 3 3 temperatureSet temperatureGrid fp ft)
+    (λ temperature. shownBy trimming pressure temperature (markOf identity pressure temperature)))))

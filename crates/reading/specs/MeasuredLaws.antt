@@ -23,7 +23,7 @@ use Rattle.reading.specs.declared.value.Value.the-variants.{Known, Refus
 use Rattle.reading.specs.Value.{withValue}
 use Rattle.reading.specs.ValueLaws.{within-says}
 use Rattle.reading.specs.Frequency.{prescaledOf}
-use Rattle.reading.specs.Polynomial.{gridSum, gridResult, resultFromXp, setResult}
+use Rattle.reading.specs.Polynomial.{gridSum, setResult}
 use Rattle.reading.specs.Measured.{outside, markOf, andShow}
 
 module _ {v w : Value} (next : ℤ → Answer) (is : v ≡ w) where
@@ -77,7 +77,7 @@ with-bound (Known y) next z most h e = h y e
 with-bound (Refused r) next z most h e = let n : _≡_ {A = ℕ} 0 1 = cc in absurd (omega arith)
 
 pub set-bound : (kind first : ℕ) (set : Set) (grid : List (List ℤ)) (pressure temperature z : ℤ) → setResult kind first set grid pressure temperature ≡ Known z → natAbs z ≤ 2 ^ 31
-unfolding setResult resultFromXp gridResult
+unfolding setResult
 set-bound kind first set grid pressure temperature z e =
     with-bound (prescaledOf first (set .pressure) pressure) _ z (2 ^ 31)
     (λ xp. with-bound (prescaledOf (first + 1) (set .temperature) temperature) _ z (2 ^ 31)

@@ -16,9 +16,9 @@ use Rattle.reading.specs.declared.value.Value.the-variants.{Known, Refus
 use Rattle.reading.specs.Value.{given, withValue, within}
 use Rattle.reading.specs.ValueLaws.{within-says}
 use Rattle.reading.specs.Frequency.{prescaledOf}
-use Rattle.reading.specs.Polynomial.{stepOf, rowSum, rowStep, gridSum, gridResult, resultFromXp, setResult}
+use Rattle.reading.specs.Polynomial.{stepOf, rowSum, gridSum, setResult}
 use Rattle.reading.specs.PolynomialLaws.{nothing-turned}
-use Rattle.reading.specs.Nested.{times, nested, manualRow, manualSum}
+use Rattle.reading.specs.Nested.{times, nested, manualRow, manualSum, ByManual}
 
 -- ---- what a value that is known says of the one before it
 
@@ -54,10 +54,10 @@ rowsSummed x [] = []
 rowsSummed x (row ∷ rows) = summed x row ∷ rowsSummed x rows
 
 grid-is : (kind : ℕ) (xp xt : ℤ) (grid : List (List ℤ)) (z : ℤ) → gridSum kind xp xt grid ≡ Known z → z ≡ summed xp (rowsSummed xt grid)
-unfolding gridSum rowStep summed rowsSummed
+unfolding gridSum summed rowsSummed
 grid-is kind xp xt [] z e = let same : pos 0 ≡ z = cc in sym same
 grid-is kind xp xt (row ∷ rows) z e =
-    let b = before (gridSum kind xp xt rows) (λ sum. rowStep kind xp xt row sum) z e in
+    let b = before (gridSum kind xp xt rows) (λ sum. withValue (rowSum kind xt row) (λ c. stepOf kind xp c sum)) z e in
     let r = before (rowSum kind xt row) (λ c. stepOf kind xp c (b .value)) z (b .then-known) in
     step-is kind xp (r .value) (b .value) z (r .then-known)
     ∙ rw (row-is kind xt row (r .value) (r .known), grid-is kind xp xt rows (b .value) (b .known))
@@ -80,20 +80,13 @@ grid-manual body xp xt = simp summed-five
 pub sum-of-manual : (kind : ℕ) (xp xt : ℤ) (body : List ℕ) (z : ℤ) → gridSum kind xp xt (gridOf body) ≡ Known z → z ≡ manualSum (gridPlace body) xp xt
 sum-of-manual kind xp xt body z e = grid-is kind xp xt (gridOf body) z e ∙ grid-manual body xp xt
 
--- a set's result that is known: the manual's polynomial at the set's own XP and XT
-pub record ByManual (first : ℕ) (set : Set) (body : List ℕ) (pressure temperature z : ℤ) : Type 0 where
-  pub xp : ℤ
-  pub xt : ℤ
-  pub xp-is : prescaledOf first (set .pressure) pressure ≡ Known xp
-  pub xt-is : prescaledOf (first + 1) (set .temperature) temperature ≡ Known xt
-  pub is : z ≡ manualSum (gridPlace body) xp xt
-
+-- a set's result that is known is the manual's
 pub result-of-manual : (kind first : ℕ) (set : Set) (body : List ℕ) (pressure temperature z : ℤ)
     → setResult kind first set (gridOf body) pressure temperature ≡ Known z → ByManual first set body pressure temperature z
-unfolding setResult resultFromXp gridResult
+unfolding setResult
 result-of-manual kind first set body pressure temperature z e =
-    let p = before (prescaledOf first (set .pressure) pressure) (λ xp. resultFromXp kind (first + 1) xp (set .temperature) temperature (gridOf body)) z e in
-    let t = before (prescaledOf (first + 1) (set .temperature) temperature) (λ xt. gridResult kind (p .value) xt (gridOf body)) z (p .then-known) in
+    let p = before (prescaledOf first (set .pressure) pressure) _ z e in
+    let t = before (prescaledOf (first + 1) (set .temperature) temperature) _ z (p .then-known) in
     let s = before (gridSum kind (p .value) (t .value) (gridOf body)) (λ sum. within (2 ^ 31) 26 kind sum) z (t .then-known) in
     record {
       xp = p .value;
@@ -124,9 +117,9 @@ row-refused kind x (c ∷ row) r e =
     with-refused (rowSum kind x row) (λ sum. stepOf kind x c sum) r (refusal 25 kind) (row-refused kind x row r) (λ sum f. step-refused kind x c sum r f) e
 
 pub sum-refused : (kind : ℕ) (xp xt : ℤ) (grid : List (List ℤ)) (r : Refusal) → gridSum kind xp xt grid ≡ Refused r → r ≡ refusal 25 kind
-unfolding gridSum rowStep
+unfolding gridSum
 sum-refused kind xp xt [] r e = let n : _≡_ {A = ℕ} 0 1 = cc in absurd (omega arith)
 sum-refused kind xp xt (row ∷ rows) r e =
-    with-refused (gridSum kind xp xt rows) (λ sum. rowStep kind xp xt row sum) r (refusal 25 kind) (sum-refused kind xp xt rows r)
+    with-refused (gridSum kind xp xt rows) _ r (refusal 25 kind) (sum-refused kind xp xt rows r)
     (λ sum f. with-refused (rowSum kind xt row) (λ c. stepOf kind xp c sum) r (refusal 25 kind) (row-refused kind xt row r) (λ c g. step-refused kind xp c sum r g) f)
     e

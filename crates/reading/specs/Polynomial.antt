@@ -3,7 +3,6 @@ use mathlib.Core.List.{List, [], _∷_}
 use Prim.Native.Nat.{ℕ, _+_, _^_}
 use lib.IntN.{ℤ, pos, _+ℤ_, _*ℤ_}
 use Rattle.whole.specs.Rounded.{rounded}
-use Rattle.sets.specs.declared.Prescale.{Prescale}
 use Rattle.sets.specs.declared.Set.{Set}
 use Rattle.reading.specs.declared.value.Value.{Value}
 use Rattle.reading.specs.declared.value.Value.the-variants.{Known}
@@ -20,22 +19,14 @@ rowSum kind x [] = Known (pos 0)
 rowSum kind x (c ∷ row) = withValue (rowSum kind x row) (λ sum. stepOf kind x c sum)
 
 -- the rows' sums, summed the same way with XP
-unfoldable pub rowStep : (kind : ℕ) → (xp xt : ℤ) → List ℤ → (sum : ℤ) → Value
-rowStep kind xp xt row sum = withValue (rowSum kind xt row) (λ c. stepOf kind xp c sum)
-
 unfoldable pub gridSum : (kind : ℕ) → (xp xt : ℤ) → List (List ℤ) → Value
 gridSum kind xp xt [] = Known (pos 0)
-gridSum kind xp xt (row ∷ rows) = withValue (gridSum kind xp xt rows) (λ sum. rowStep kind xp xt row sum)
+gridSum kind xp xt (row ∷ rows) = withValue (gridSum kind xp xt rows) (λ sum. withValue (rowSum kind xt row) (λ c. stepOf kind xp c sum))
 
--- a set's result: 26
-unfoldable pub gridResult : (kind : ℕ) → (xp xt : ℤ) → List (List ℤ) → Value
-gridResult kind xp xt grid = withValue (gridSum kind xp xt grid) (λ sum. within (2 ^ 31) 26 kind sum)
-
--- it comes from the set's own prescale of both frequencies; `first` is the detail of its XP, and its XT has the next
-unfoldable pub resultFromXp : (kind detail : ℕ) → (xp : ℤ) → Prescale → (temperature : ℤ) → List (List ℤ) → Value
-resultFromXp kind detail xp scale temperature grid =
-    withValue (prescaledOf detail scale temperature) (λ xt. gridResult kind xp xt grid)
-
+-- XP and XT by the set's own prescale, the sum of the rows, its limit: 26. `first` is the detail of XP, and XT has the next
 unfoldable pub setResult : (kind first : ℕ) → Set → List (List ℤ) → (pressure temperature : ℤ) → Value
 setResult kind first set grid pressure temperature =
-    withValue (prescaledOf first (set .pressure) pressure) (λ xp. resultFromXp kind (first + 1) xp (set .temperature) temperature grid)
+    withValue (prescaledOf first (set .pressure) pressure)
+    (λ xp. withValue (prescaledOf (first + 1) (set .temperature) temperature)
+    (λ xt. withValue (gridSum kind xp xt grid)
+    (λ sum. within (2 ^ 31) 26 kind sum)))

@@ -24,7 +24,8 @@ use Rattle.reading.specs.declared.value.Value.{Value}
 use Rattle.reading.specs.declared.value.Value.the-variants.{Known, Refused}
 use Rattle.reading.specs.Value.{withValue, within}
 use Rattle.reading.specs.ValueLaws.{within-beyond, within-says}
-use Rattle.reading.specs.Polynomial.{stepOf, rowSum, rowStep, gridSum}
+use Rattle.reading.specs.Polynomial.{stepOf, rowSum, gridSum}
+use Rattle.reading.specs.PolynomialCuts.{rowStep}
 
 abbrev limit : ℕ
 limit = 500000000000
@@ -90,7 +91,7 @@ module _ (kind : ℕ) (xp xt : ℤ) where
 
   pub grid-next : (grid : List (List ℤ)) (i : ℕ) (sum : ℤ) → i < length grid → gridSum kind xp xt (drop (suc i) grid) ≡ Known sum
       → gridSum kind xp xt (drop i grid) ≡ rowStep kind xp xt (getD grid i []) sum
-  unfolding gridSum
+  unfolding gridSum rowStep
   grid-next grid i sum h e = rw (drop-cons grid i [] h, e)
 
   pub grid-stops : (grid : List (List ℤ)) (i : ℕ) (r : Refusal) → gridSum kind xp xt (drop i grid) ≡ Refused r → gridSum kind xp xt grid ≡ Refused r

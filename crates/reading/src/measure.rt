@@ -12,7 +12,8 @@ ghost use mathlib.Core.Path.{_≡_};
 ghost use Prim.Native.Nat.{_≤_, _^_};
 ghost use lib.IntN.{natAbs};
 ghost use Rattle.sets.specs.Set.{setOf, gridOf};
-ghost use Rattle.reading.specs.Measured.{fromPressure, fromFrequencies, fromPressureFrequency, measuredOf};
+ghost use Rattle.reading.specs.Measured.{measuredOf};
+ghost use Rattle.reading.specs.MeasuredCuts.{fromPressure, fromFrequencies, fromPressureFrequency};
 
 fn from_pressure(
     pressure: i64,

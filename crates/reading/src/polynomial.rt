@@ -8,7 +8,8 @@ ghost use Prim.Native.Nat.{_≤_, _^_};
 ghost use lib.IntN.{pos, natAbs};
 ghost use lib.ListN.{replicate};
 ghost use Rattle.sets.specs.Set.{setOf, gridOf};
-ghost use Rattle.reading.specs.Polynomial.{stepOf, rowSum, rowStep, gridSum, gridResult, resultFromXp, setResult};
+ghost use Rattle.reading.specs.Polynomial.{stepOf, rowSum, gridSum, setResult};
+ghost use Rattle.reading.specs.PolynomialCuts.{rowStep, gridResult, resultFromXp};
 
 // One step of a running sum.
 fn step(kind: u64, x: i64, coefficient: i64, sum: i64) -> Value

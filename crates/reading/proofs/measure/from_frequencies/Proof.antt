@@ -4,7 +4,7 @@ use mir.Syntax.{w64}
 use mir.Facts.{toZ-ofZ}
 use Rattle.laws.specs.Pattern.{read-back}
 use Rattle.reading.specs.MeasuredLaws.{set-bound, answer-known, answer-refused}
-use Rattle.reading.specs.Measured.{fromFrequencies}
+use Rattle.reading.specs.MeasuredCuts.{fromFrequencies}
 use Rattle.reading.proofs.measure.from_frequencies.Statement.{statement}
 use Rattle.reading.proofs.measure.from_frequencies.Tie as tie
 

@@ -4,7 +4,7 @@ use mir.Syntax.{w64}
 use mir.Facts.{toZ-ofZ}
 use Rattle.laws.specs.Pattern.{read-back}
 use Rattle.reading.specs.MeasuredLaws.{answer-known, answer-refused}
-use Rattle.reading.specs.Measured.{fromPressure}
+use Rattle.reading.specs.MeasuredCuts.{fromPressure}
 use Rattle.reading.proofs.measure.from_pressure.Statement.{statement}
 use Rattle.reading.proofs.measure.from_pressure.Tie as tie
 

@@ -5,7 +5,7 @@ use mir.Facts.{toZ-ofZ}
 use Rattle.laws.specs.Pattern.{read-back}
 use Rattle.reading.specs.FrequencyLaws.{frequency-bound}
 use Rattle.reading.specs.MeasuredLaws.{answer-known, answer-refused}
-use Rattle.reading.specs.Measured.{fromPressureFrequency}
+use Rattle.reading.specs.MeasuredCuts.{fromPressureFrequency}
 use Rattle.reading.proofs.measure.from_pressure_frequency.Statement.{statement}
 use Rattle.reading.proofs.measure.from_pressure_frequency.Tie as tie
 

@@ -5,6 +5,7 @@ use Rattle.laws.specs.Pattern.{read-back}
 use Rattle.reading.specs.FrequencyLaws.{frequency-bound}
 use Rattle.reading.specs.MeasuredLaws.{answer-known, answer-refused}
 use Rattle.reading.specs.Measured.{measuredOf}
+use Rattle.reading.specs.MeasuredCuts.{fromPressure, fromFrequencies, fromPressureFrequency}
 use Rattle.reading.proofs.measure.measured.Statement.{statement}
 use Rattle.reading.proofs.measure.measured.Tie as tie
 
@@ -23,7 +24,7 @@ enum-known-refusal : tie.Need-enum-known-refusal
 enum-known-refusal c = search needs
 
 returns : tie.Need-returns
-unfolding measuredOf
+unfolding measuredOf fromPressureFrequency fromFrequencies fromPressure
 returns c =
     let g = c .before .before .fp .given in
     (rw (read-back w64 (g .0 .0) (c .before .known-told .given .0 .1)) at (c .from-pressure-frequency .ensures)) ∙ answer-known _ (c .before .before .before .before .frequency .ensures) (g .1)

@@ -4,7 +4,7 @@ use mir.Syntax.{w64}
 use mir.Facts.{toZ-ofZ}
 use Rattle.laws.specs.Pattern.{read-back}
 use Rattle.reading.specs.ValueLaws.{value-known, value-refused}
-use Rattle.reading.specs.Polynomial.{gridResult}
+use Rattle.reading.specs.PolynomialCuts.{gridResult}
 use Rattle.reading.proofs.polynomial.grid_result.Statement.{statement}
 use Rattle.reading.proofs.polynomial.grid_result.Tie as tie
 

@@ -4,7 +4,7 @@ use mir.Syntax.{w64}
 use mir.Facts.{toZ-ofZ}
 use Rattle.laws.specs.Pattern.{read-back}
 use Rattle.reading.specs.ValueLaws.{value-known, value-refused}
-use Rattle.reading.specs.Polynomial.{resultFromXp}
+use Rattle.reading.specs.PolynomialCuts.{resultFromXp}
 use Rattle.reading.specs.FrequencyLaws.{prescaled-bound}
 use Rattle.reading.proofs.polynomial.result_from_xp.Statement.{statement}
 use Rattle.reading.proofs.polynomial.result_from_xp.Tie as tie

@@ -5,6 +5,7 @@ use mir.Facts.{toZ-ofZ}
 use Rattle.laws.specs.Pattern.{read-back}
 use Rattle.reading.specs.ValueLaws.{value-known, value-refused}
 use Rattle.reading.specs.Polynomial.{setResult}
+use Rattle.reading.specs.PolynomialCuts.{gridResult, resultFromXp}
 use Rattle.reading.specs.FrequencyLaws.{prescaled-bound}
 use Rattle.reading.proofs.polynomial.set_result.Statement.{statement}
 use Rattle.reading.proofs.polynomial.set_result.Tie as tie
@@ -35,7 +36,7 @@ enum-known-refusal : tie.Need-enum-known-refusal
 enum-known-refusal c = search needs
 
 returns : tie.Need-returns
-unfolding setResult
+unfolding setResult resultFromXp gridResult
 returns c =
     let b = c .before .before .before .before .before .before .before .before .before .before in
     let set = c .before .before .before .before .before .before .before .before .read-set .ensures in
