@@ -4,16 +4,17 @@ use mathlib.Core.List.{List, [], _∷_}
 use Prim.Native.Nat.{ℕ}
 use lib.Dec.{leb, eqb}
 
--- level 1 knows kinds 1, 2, 3; level 2 also knows 4 and 129; there is no other
+-- a level is 1 or 2
+abbrev pub isLevel : (level : ℕ) → Bool
+isLevel level = eqb level 1 || eqb level 2
+
+-- level 1 knows kinds 1, 2, 3; level 2 also knows 4 and 129
 abbrev pub kindsOfLevel : (level : ℕ) → List ℕ
 kindsOfLevel level = cond (eqb level 1) (1 ∷ 2 ∷ 3 ∷ []) (cond (eqb level 2) (1 ∷ 2 ∷ 3 ∷ 4 ∷ 129 ∷ []) [])
 
 abbrev pub isAmong : (kind : ℕ) → List ℕ → Bool
 isAmong kind [] = false
 isAmong kind (k ∷ kinds) = eqb kind k || isAmong kind kinds
-
-abbrev pub isLevel : (level : ℕ) → Bool
-isLevel level = isAmong 1 (kindsOfLevel level)
 
 unfoldable pub knows : (level kind : ℕ) → Bool
 knows level kind = isAmong kind (kindsOfLevel level)

@@ -4,7 +4,6 @@ use mathlib.Core.Bool.{Bool, true, false, _||_, or-false, true≢false, false≢
 use Prim.Native.Nat.{ℕ}
 use borrow.Author.Tests.{eq-eqb, ne-eqb}
 use lib.Dec.{leb, eqb}
-use Rattle.laws.specs.Cases.{decide}
 use Rattle.panel.specs.Levels.{isLevel, knows, mayPass}
 
 -- ---- a level
@@ -13,7 +12,7 @@ pub level-one : (level : ℕ) → level ≡ 1 → true ≡ isLevel level
 level-one level e = rw (eq-eqb level 1 e)
 
 pub level-two : (level : ℕ) → (level ≡ 1 → ⊥) → eqb level 2 ≡ isLevel level
-level-two level n = rw (ne-eqb level 1 n) (decide (eqb level 2) (λ e. rw e) (λ e. rw e))
+level-two level n = rw (ne-eqb level 1 n)
 
 -- ---- a kind
 
