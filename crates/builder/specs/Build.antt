@@ -1,11 +1,13 @@
 -- What the builder makes of contents lines, each a kind and a length, and of all bodies joined.
+use mathlib.Core.Path.{_≡_}
 use mathlib.Core.Bool.{Bool, true, _&&_}
 use mathlib.Core.List.{List, [], _∷_}
 use Prim.Native.Nat.{ℕ, _+_}
 use lib.Dec.{leb, ltb, eqb}
 use lib.ListN.{length, take, drop}
+use Rattle.laws.specs.Bytes.{Bytes}
 use Rattle.refusals.specs.declared.Verdict.{Verdict}
-use Rattle.refusals.specs.Refusals.{Outcome, checked, ask, andThen}
+use Rattle.refusals.specs.Refusals.{Outcome, result, checked, ask, andThen}
 use Rattle.image.specs.Layout.{linePlace}
 use Rattle.image.specs.Sections.{Section, imageOf}
 use Rattle.builder.specs.declared.Line.{Line}
@@ -37,3 +39,11 @@ buildVerdict size lines bodies =
 
 unfoldable pub buildImage : (size : ℕ) → List Line → (bodies : List ℕ) → Outcome
 buildImage size lines bodies = checked (buildVerdict size lines bodies) (imageOf (sectionsOf lines bodies))
+
+-- an image that the builder makes of bytes
+pub record Built (image : List ℕ) : Type 0 where
+  pub size : ℕ
+  pub lines : List Line
+  pub bodies : List ℕ
+  pub bytes : Bytes bodies
+  pub made : buildImage size lines bodies ≡ result image

@@ -18,7 +18,7 @@ use Rattle.image.specs.Back.{sections-fit, sections-bytes, image-of-sections}
 use Rattle.image.specs.Find.{bodyOf, found}
 use Rattle.image.specs.FindLaws.{found-in-image}
 use Rattle.builder.specs.declared.Line.{Line}
-use Rattle.builder.specs.Build.{sectionsOf, buildVerdict, buildImage}
+use Rattle.builder.specs.Build.{sectionsOf, buildVerdict, buildImage, Built}
 use Rattle.builder.specs.Lines.{linesOf, noLine, bodyGiven}
 use Rattle.builder.specs.BuildLaws.{line-small, line-short, body-given, Passed, passed, passes, sections-counted, bodies-whole, sections-rise, lines-counted, lines-total, lines-rise, sections-again}
 
@@ -89,14 +89,6 @@ good-built size image b good room =
       room = omega arith;
     } in
     rw (passes size (linesOf ss) (bodiesOf ss) p, sections-again ss, same)
-
--- an image that the builder makes of bytes
-pub record Built (image : List ℕ) : Type 0 where
-  pub size : ℕ
-  pub lines : List Line
-  pub bodies : List ℕ
-  pub bytes : Bytes bodies
-  pub made : buildImage size lines bodies ≡ result image
 
 -- The builder's images are exactly those with a good layout.
 pub built-exactly : (image : List ℕ) → Built image ↔ (Bytes image × (layoutVerdict image ≡ Accepted))

@@ -8,7 +8,8 @@ use borrow.Author.Tests.{lt-ltb, le-ltb, le-leb, lt-leb, eq-eqb, ne-eqb, eqb-tru
 use lib.Dec.{leb, ltb, eqb}
 use lib.ListN.{length, drop, getD}
 use Rattle.laws.specs.Cases.{split, decide, both-left, both-right}
-use Rattle.laws.specs.Sums.{total, total-more, total-end}
+use Rattle.laws.specs.Sums.{total}
+use Rattle.laws.specs.SumsLaws.{total-more, total-end}
 use Rattle.refusals.specs.declared.Verdict.{Verdict}
 use Rattle.refusals.specs.declared.Verdict.the-variants.{Accepted, Refused}
 use Rattle.refusals.specs.Refusals.{refusal}

@@ -9,7 +9,8 @@ use lib.ListN.{length, take, drop, getD, set, length-set, length-append, length-
 use lib.Seq.{sets, sets-eq, take-at, length-take-le, take-suc-set, drop-cons, drop-drop}
 use mir.Syntax.{w8, w16, w64}
 use mir.Val.{Fits}
-use Rattle.laws.specs.Sums.{total, total-more}
+use Rattle.laws.specs.Sums.{total}
+use Rattle.laws.specs.SumsLaws.{total-more}
 use Rattle.refusals.specs.declared.Refusal.{Refusal}
 use Rattle.refusals.specs.declared.Verdict.{Verdict}
 use Rattle.refusals.specs.declared.Verdict.the-variants.{Accepted, Refused}

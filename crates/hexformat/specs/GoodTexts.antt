@@ -6,7 +6,8 @@ use native.Mathlib.Omega.{arith}
 use lib.ListN.{length, length-append}
 use Rattle.refusals.specs.Refusals.{result}
 use Rattle.hextext.specs.Text.{readText}
-use Rattle.laws.specs.Bytes.{Bytes, bytes-nil, bytes-append, bytes-front}
+use Rattle.laws.specs.Bytes.{Bytes}
+use Rattle.laws.specs.BytesLaws.{bytes-nil, bytes-append, bytes-front}
 use Rattle.hexformat.specs.Format.{LineEnd, lf, crlf, Fields, Form, DataLines, none, next, GoodText}
 use Rattle.hexformat.specs.Faults.{WholeLine}
 use Rattle.hexformat.specs.Damage.{WholeLines, none as no-lines, more}

@@ -7,9 +7,11 @@ use native.Mathlib.Nat.{le-of-lt}
 use borrow.Author.Tests.{lt-ltb, le-ltb}
 use lib.ListN.{length, take, drop, length-append, length-take, length-drop, take-append-drop, drop-of-length-le}
 use Rattle.laws.specs.Cases.{split}
-use Rattle.laws.specs.Sums.{total, total-append}
+use Rattle.laws.specs.Sums.{total}
+use Rattle.laws.specs.SumsLaws.{total-append}
 use Rattle.hextext.specs.Written.{hexDigit, spell, checksum, headAndData, recordText, writing}
-use Rattle.laws.specs.Bytes.{Bytes, bytes-nil, bytes-cons, bytes-append, bytes-take, bytes-drop}
+use Rattle.laws.specs.Bytes.{Bytes}
+use Rattle.laws.specs.BytesLaws.{bytes-nil, bytes-cons, bytes-append, bytes-take, bytes-drop}
 use Rattle.hexformat.specs.Format.{Digit, decimal, upperCase, Spelled, nothing, pair, lf, Fields, Form, Balanced, DataLines, next, GoodText}
 
 -- ---- a record

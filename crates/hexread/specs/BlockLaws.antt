@@ -8,7 +8,8 @@ use native.Mathlib.Numerals.{add-one}
 use lib.Dec.{ltb}
 use lib.ListN.{length, take, drop, getD, set, length-take, length-drop, length-set, take-append-drop, drop-of-length-le}
 use lib.Seq.{drop-drop, take-suc, take-suc-set, take-all, take-append-le, getD-drop}
-use Rattle.laws.specs.Sums.{total, total-append}
+use Rattle.laws.specs.Sums.{total}
+use Rattle.laws.specs.SumsLaws.{total-append}
 use Rattle.hextext.specs.Record.{digit, allDigits, bytesOf}
 use Rattle.hextext.specs.RecordLaws.{length-bytesOf}
 use Rattle.hexread.specs.PairsLaws.{Passed, Put}

@@ -5,7 +5,8 @@ use Prim.Native.Nat.{ℕ, _+_, _-_, _*_, _/_, _%_, _^_}
 use native.Mathlib.Nat.{add-mod}
 use native.Mathlib.Omega.{arith}
 use lib.ListN.{length, length-append}
-use Rattle.laws.specs.Sums.{total, total-append}
+use Rattle.laws.specs.Sums.{total}
+use Rattle.laws.specs.SumsLaws.{total-append}
 use Rattle.laws.specs.Wrote.{Wrote, wrote-then}
 use Rattle.hextext.specs.Written.{spell, checksum, headAndData, recordText}
 use Rattle.hextext.specs.WrittenLaws.{length-spell}

@@ -6,7 +6,8 @@ use native.Mathlib.Nat.{add-zero, zero-add}
 use native.Mathlib.Omega.{arith}
 use lib.ListN.{length, drop, length-drop, take-append-drop}
 use lib.Seq.{drop-drop, drop-length, length-take-le}
-use Rattle.laws.specs.Bytes.{Bytes, bytes-drop}
+use Rattle.laws.specs.Bytes.{Bytes}
+use Rattle.laws.specs.BytesLaws.{bytes-drop}
 use Rattle.laws.specs.Lists.{drop-two}
 use Rattle.laws.specs.Sums.{total}
 use Rattle.numbers.specs.FieldsLaws.{byte-at, number-small}

@@ -7,7 +7,8 @@ use native.Mathlib.Omega.{arith}
 use borrow.Author.Tests.{eq-eqb}
 use lib.ListN.{length, drop, length-append, length-drop}
 use lib.Seq.{drop-drop, drop-at, take-append-seam, drop-append-seam}
-use Rattle.laws.specs.Bytes.{Bytes, bytes-nil, bytes-cons, bytes-append}
+use Rattle.laws.specs.Bytes.{Bytes}
+use Rattle.laws.specs.BytesLaws.{bytes-nil, bytes-cons, bytes-append}
 use Rattle.laws.specs.Sums.{total}
 use Rattle.numbers.specs.Fields.{littleEndian, numberAt}
 use Rattle.refusals.specs.declared.Verdict.the-variants.{Accepted}

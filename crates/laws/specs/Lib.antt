@@ -6,8 +6,10 @@ pub mod Order
 pub mod Cases
 pub mod Lists
 pub mod Sums
+pub mod SumsLaws
 pub mod Tables
 pub mod Bytes
+pub mod BytesLaws
 pub mod Loops
 pub mod Wrote
 pub mod Characters

@@ -12,7 +12,8 @@ use lib.Seq.{drop-cons, drop-drop, take-nil}
 use mir.Syntax.{Width, w8, w16, w32, w64, w128}
 use mir.Val.{SFits, bits, hbits, toZ, ofZ}
 use mir.Facts.{toZ-pos, toZ-ofZ}
-use Rattle.laws.specs.Bytes.{Bytes, bytes-drop}
+use Rattle.laws.specs.Bytes.{Bytes}
+use Rattle.laws.specs.BytesLaws.{bytes-drop}
 use Rattle.laws.specs.Cases.{split}
 use Rattle.laws.specs.Magnitude.{natural-difference, difference-lt}
 use Rattle.laws.specs.Pattern.{read-back, past-minus-one}

@@ -7,7 +7,8 @@ use native.Mathlib.Omega.{arith}
 use lib.ListN.{length, take, drop, getD, replicate, set, length-set, length-drop, drop-of-length-le}
 use lib.Seq.{take-suc-set, take-all, take-nil}
 use Rattle.laws.specs.Cases.{split}
-use Rattle.laws.specs.Sums.{total, total-more, total-end}
+use Rattle.laws.specs.Sums.{total}
+use Rattle.laws.specs.SumsLaws.{total-more, total-end}
 use Rattle.numbers.specs.Slices.{clearedFrom}
 
 -- what lies between two places is the part from start on, where the places are cut at the end

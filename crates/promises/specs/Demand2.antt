@@ -23,9 +23,9 @@ use Rattle.image.specs.Layout.{layoutVerdict}
 use Rattle.image.specs.Sections.{sections, bodiesOf}
 use Rattle.image.specs.Find.{bodyOf, found}
 use Rattle.builder.specs.declared.Line.{Line}
-use Rattle.builder.specs.Build.{sectionsOf, buildImage}
+use Rattle.builder.specs.Build.{sectionsOf, buildImage, Built}
 use Rattle.builder.specs.Lines.{linesOf, noLine, bodyGiven}
-use Rattle.builder.specs.Built.{Built, built-exactly, built-found, built-found-line, good-built}
+use Rattle.builder.specs.Built.{built-exactly, built-found, built-found-line, good-built}
 use Rattle.bodies.specs.Identity.{identityOf}
 use Rattle.sets.specs.Set.{setOf, gridOf}
 use Rattle.reading.specs.declared.Counts.{Counts}

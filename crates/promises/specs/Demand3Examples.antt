@@ -9,7 +9,8 @@ use borrow.Author.Tests.{ltb-true}
 use lib.Dec.{ltb}
 use lib.IntN.{pos}
 use lib.ListN.{length}
-use Rattle.laws.specs.Bytes.{Bytes, bytes-nil, bytes-cons}
+use Rattle.laws.specs.Bytes.{Bytes}
+use Rattle.laws.specs.BytesLaws.{bytes-nil, bytes-cons}
 use Rattle.laws.specs.Cases.{both-left, both-right}
 use Rattle.numbers.specs.Fields.{littleEndian, numberAt, twosComplement}
 use Rattle.whole.specs.Rounded.{rounded}
