@@ -33,7 +33,7 @@ use Rattle.reading.specs.declared.value.Value.{Value}
 use Rattle.reading.specs.declared.value.Value.the-variants.{Known, Refused as NotKnown}
 use Rattle.reading.specs.Frequency.{frequencyOf}
 use Rattle.reading.specs.Polynomial.{setResult}
-use Rattle.reading.specs.Measured.{andShow, markOf, trimmedBy, shownBy, measuredOf, fromPressure, fromFrequencies, fromPressureFrequency}
+use Rattle.reading.specs.Measured.{andShow, markOf, trimmedBy, shownBy, measuredOf}
 use Rattle.panel.specs.Reading.{bodyIn, trimmingOf, sectionsReading}
 use Rattle.agreement.specs.TableLaws.{none-append, first-append, first-stays}
 use Rattle.agreement.specs.TestsLaws.{fails-beyond}
@@ -160,7 +160,7 @@ module _ (image : List ℕ) (counts : Counts) (right : Readable image) where
   -- ---- the whole way
 
   pub sections-give : AnswerGives (countsTable image paper) (ShowsReading image counts) (sectionsReading (sections image) counts)
-  unfolding sectionsReading measuredOf fromPressureFrequency fromFrequencies fromPressure
+  unfolding sectionsReading measuredOf
   sections-give =
       answer-then (channelTable 1 (paper .pressureNS) (paper .pressureNR)) _ (Counted 1 (paper .pressureNS) (paper .pressureNR)) (ShowsReading image counts)
       (frequencyOf 1 (paper .pressureNS) (paper .pressureNR)) _ (frequency-gives 1 (paper .pressureNS) (paper .pressureNR))

@@ -23,7 +23,7 @@ use Rattle.reading.specs.declared.value.Value.{Value}
 use Rattle.reading.specs.declared.value.Value.the-variants.{Known, Refused}
 use Rattle.reading.specs.Value.{withValue, within}
 use Rattle.reading.specs.Frequency.{prescaledOf}
-use Rattle.reading.specs.Polynomial.{stepOf, rowSum, rowStep, gridSum, gridResult, resultFromXp, setResult}
+use Rattle.reading.specs.Polynomial.{stepOf, rowSum, gridSum, setResult}
 use Rattle.agreement.specs.TestsLaws.{fails-beyond}
 use Rattle.agreement.specs.FieldsAgree.{number-same, signed-same}
 use Rattle.agreement.specs.NearestLaws.{nearest-once}
@@ -43,7 +43,7 @@ row-chain kind x body r (suc left) place =
 
 grid-chain : (kind : ℕ) (xp xt : ℤ) (body : List ℕ) (left r : ℕ)
     → gridSum kind xp xt (rowsFrom body left r) ≡ chain kind xp (λ (q : ℕ). rowSum kind xt (rowFrom body q 5 0)) left r
-unfolding gridSum rowStep rowsFrom chain
+unfolding gridSum rowsFrom chain
 grid-chain kind xp xt body zero r = refl
 grid-chain kind xp xt body (suc left) r =
     ap (λ (v : Value). withValue v (λ sum. withValue (rowSum kind xt (rowFrom body r 5 0)) (λ c. stepOf kind xp c sum))) (grid-chain kind xp xt body left (r + 1))
@@ -228,7 +228,7 @@ module _ (body : List ℕ) (right : Not (SetWrong body)) where
       fromXP xp = withValue (prescaledOf (first + 1) (setOf body .temperature) ft) (λ xt. fromXT xp xt)
 
       pub set-gives : ValueGives (row24P ∷ row24T ∷ row25 ∷ row26 ∷ []) IsResult (setResult kind first (setOf body) (gridOf body) fp ft)
-      unfolding setOf setResult resultFromXp gridResult
+      unfolding setOf setResult
       set-gives =
           value-then (row24P ∷ []) (row24T ∷ row25 ∷ row26 ∷ []) (λ (x : ℤ). IsXP body fp x) IsResult (prescaledOf first (setOf body .pressure) fp) (λ xp. fromXP xp)
           (rw number-same (prescaled-gives first (numberAt 1 body 2) (numberAt 4 body 4) (numberAt 8 body 8) fp (rw number-same at (into XPBeyond)) (rw number-same at (out XPBeyond))))
