@@ -10,3 +10,4 @@ pub mod ChainLaws
 pub mod SetAgrees
 pub mod ShownAgrees
 pub mod ReadingAgrees
+pub mod LayoutAgrees
