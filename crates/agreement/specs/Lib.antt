@@ -11,3 +11,4 @@ pub mod SetAgrees
 pub mod ShownAgrees
 pub mod ReadingAgrees
 pub mod LayoutAgrees
+pub mod BodiesAgree
