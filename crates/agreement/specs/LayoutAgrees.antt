@@ -40,10 +40,6 @@ module _ (number : ℕ) (P : ℕ → Type 0) (i : ℕ) where
   lowest-then true w f below next = next refl
   lowest-then false w f below next = (refl, (f .bad refl, below))
 
-  -- none is left
-  pub lowest-end : NoneBelow P i → ((j : ℕ) → P j → j < i) → Judges (lowest number P) Accepted
-  lowest-end below within d g = below d (within d (g .0)) (g .0)
-
   -- the last one is tested
   pub lowest-last : (test : Bool) → Fails test (P i) → NoneBelow P i → ((j : ℕ) → P j → j ≤ i) → Judges (lowest number P) (ask test number i)
   lowest-last true f below within = λ d g. none-next P i below (f .good refl) d (omega (arith, within d (g .0))) (g .0)
@@ -96,7 +92,7 @@ module _ (image : List ℕ) where
 
   sums-judge : (left i : ℕ) → i + left ≡ lineCount image → NoneBelow (SumWrong image) i → Judges (lowest 8 (SumWrong image)) (sumsVerdict image left i)
   unfolding sumsVerdict
-  sums-judge zero i h below = lowest-end 8 (SumWrong image) i below (λ j w. omega (arith, w .0))
+  sums-judge zero i h below = λ d g. below d (omega (arith, g .0 .0)) (g .0)
   sums-judge (suc left) i h below =
       let fails = sum-fails i (omega arith) in
       rw (← number-same, ← sum-is (lengthOf image i) image (offsetOf image i), add-one i)

@@ -12,3 +12,4 @@ pub mod ShownAgrees
 pub mod ReadingAgrees
 pub mod LayoutAgrees
 pub mod BodiesAgree
+pub mod VerdictAgrees
