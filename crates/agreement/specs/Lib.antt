@@ -3,6 +3,9 @@ pub mod TestsLaws
 pub mod FieldsAgree
 pub mod NearestLaws
 pub mod KindsAgree
+pub mod LayoutAgrees
+pub mod BodiesAgree
+pub mod VerdictAgrees
 pub mod ValueLaws
 pub mod FrequencyAgrees
 pub mod SumLaws
@@ -10,6 +13,3 @@ pub mod ChainLaws
 pub mod SetAgrees
 pub mod ShownAgrees
 pub mod ReadingAgrees
-pub mod LayoutAgrees
-pub mod BodiesAgree
-pub mod VerdictAgrees

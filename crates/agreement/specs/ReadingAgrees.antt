@@ -13,11 +13,13 @@ use Rattle.paper.specs.Table.{Row, NoneGiven, FirstGiven}
 use Rattle.paper.specs.Image.{HasKind, HasBody}
 use Rattle.paper.specs.Bodies.{SetWrong, TrimWrong}
 use Rattle.paper.specs.Reading.{Counts as PaperCounts, Frequency, Result, Mark, Untrimmed, Trimmed, Shows}
-use Rattle.paper.specs.ReadingTable.{channelTable, InSet, setTable, countsTable}
-use Rattle.laws.specs.Cases.{decide}
+use Rattle.paper.specs.Verdict.{verdictTable}
+use Rattle.paper.specs.ReadingTable.{channelTable, InSet, setTable, countsTable, readingTable}
+use Rattle.laws.specs.Cases.{decide, positive}
 use Rattle.refusals.specs.declared.Refusal.{Refusal}
 use Rattle.refusals.specs.declared.Verdict.{Verdict}
-use Rattle.refusals.specs.declared.Verdict.the-variants.{Accepted}
+use Rattle.refusals.specs.declared.Verdict.the-variants.{Accepted, Refused as NotAccepted}
+use Rattle.refusals.specs.Refusals.{refusal}
 use Rattle.image.specs.Layout.{layoutVerdict}
 use Rattle.image.specs.Sections.{sections}
 use Rattle.image.specs.Find.{bodyOf, orElse}
@@ -34,12 +36,14 @@ use Rattle.reading.specs.declared.value.Value.the-variants.{Known, Refused as N
 use Rattle.reading.specs.Frequency.{frequencyOf}
 use Rattle.reading.specs.Polynomial.{setResult}
 use Rattle.reading.specs.Measured.{andShow, markOf, trimmedBy, shownBy, measuredOf}
-use Rattle.panel.specs.Reading.{bodyIn, trimmingOf, sectionsReading}
-use Rattle.agreement.specs.TableLaws.{none-append, first-append, first-stays}
+use Rattle.panel.specs.Verdict.{verdictOf}
+use Rattle.panel.specs.Reading.{bodyIn, trimmingOf, sectionsReading, afterVerdict, readingOf}
+use Rattle.agreement.specs.TableLaws.{Gives, none-append, none-before, none-after, first-append, first-stays, Single, single-append, row-once, none-or-first, first-once}
 use Rattle.agreement.specs.TestsLaws.{fails-beyond}
 use Rattle.agreement.specs.FieldsAgree.{signed-same}
 use Rattle.agreement.specs.NearestLaws.{nearest-once}
 use Rattle.agreement.specs.KindsAgree.{found-is-had, had-is-found, body-once, none-had, none-found, body-there}
+use Rattle.agreement.specs.VerdictAgrees.{verdict-gives, verdict-single, verdict-accepted-exactly, Readable, accepted-readable}
 use Rattle.agreement.specs.ValueLaws.{ValueGives}
 use Rattle.agreement.specs.FrequencyAgrees.{Counted, frequency-gives}
 use Rattle.agreement.specs.SetAgrees.{set-gives, result-once}
@@ -74,16 +78,7 @@ answer-then : (rows more : List Row) (P : ℤ → Type 0) (Q : Reading → Type 
 answer-then rows more P Q (Known z) next g f = answer-after rows more Q (next z) (g .0) (f z (g .1))
 answer-then rows more P Q (NotKnown r) next g f = first-stays rows more (r .number) (r .detail) g
 
--- ---- an image whose bodies can be read
-
-pub record Readable (image : List ℕ) : Type 0 where
-  pub good : layoutVerdict image ≡ Accepted
-  pub has-identity : HasKind image 1
-  pub has-pressure-set : HasKind image 2
-  pub has-temperature-set : HasKind image 3
-  pub pressure-set-right : (body : List ℕ) → HasBody image 2 body → Not (SetWrong body)
-  pub temperature-set-right : (body : List ℕ) → HasBody image 3 body → Not (SetWrong body)
-  pub trim-right : (body : List ℕ) → HasBody image 4 body → Not (TrimWrong body)
+-- ---- of an image that a panel accepts
 
 module _ (image : List ℕ) (counts : Counts) (right : Readable image) where
   abbrev paper : PaperCounts
@@ -194,3 +189,62 @@ module _ (image : List ℕ) (counts : Counts) (right : Readable image) where
         mark-once (t .identity) (t .pressure) (b .temperature) (a .mark) (b .mark) (rw (identity, pressure, temperature) at (s .mark-is)) (t .mark-is) in
         let shown = shown-once image (t .pressure) (once 4) (a .pressure) (b .pressure) (a .unit) (b .unit) (rw pressure at (s .trim-is)) (t .trim-is) in
         rw (shown .0, temperature, shown .1, mark)
+
+-- ---- the reading of an image
+
+module _ (level : ℕ) (image : List ℕ) (counts : Counts) where
+  abbrev rows : List Row
+  rows = readingTable level image (onPaper counts)
+
+  reading-gives : AnswerGives rows (ShowsReading image counts) (readingOf level image counts)
+  unfolding readingOf
+  reading-gives = by (verdictOf level image) refl (verdict-gives level image)
+    where
+      by : (v : Verdict) → verdictOf level image ≡ v → Gives (verdictTable level image) v
+          → AnswerGives rows (ShowsReading image counts) (afterVerdict v (sectionsReading (sections image) counts))
+      by Accepted e g =
+          answer-after (verdictTable level image) (countsTable image (onPaper counts)) (ShowsReading image counts) (sectionsReading (sections image) counts) g
+          (sections-give image counts (accepted-readable level image e))
+      by (NotAccepted r) e g = first-stays (verdictTable level image) (countsTable image (onPaper counts)) (r .number) (r .detail) g
+
+  rows-single : Single rows
+  rows-single =
+      single-append (verdictTable level image) (countsTable image (onPaper counts)) (verdict-single level image) (
+        row-once 1 _,
+        (
+          row-once 1 _,
+          (
+            row-once 1 _,
+            (
+              row-once 2 _,
+              (
+                row-once 2 _,
+                (
+                  row-once 2 _,
+                  (row-once 1 _, (row-once 2 _, (row-once 2 _, (row-once 2 _, (row-once 3 _, (row-once 4 _, (row-once 3 _, (row-once 3 _, tt)))))))),
+                ),
+              ),
+            ),
+          ),
+        ),
+      )
+
+  -- a reading is refused by a number with a detail exactly where that is the first row given
+  pub reading-refused-exactly : (number detail : ℕ) → (readingOf level image counts ≡ Refused (refusal number detail)) ↔ FirstGiven rows number detail
+  reading-refused-exactly number detail = (λ e. rw e at reading-gives, λ f. by (readingOf level image counts) reading-gives f)
+    where
+      by : (a : Answer) → AnswerGives rows (ShowsReading image counts) a → FirstGiven rows number detail → a ≡ Refused (refusal number detail)
+      by (Shown reading) g f = absurd (none-or-first rows number detail (g .0) f)
+      by (Refused r) g f = let same = first-once rows rows-single (r .number) (r .detail) number detail g f in rw (← same .0, ← same .1)
+
+  -- and shown exactly where no row is given and it is what document 01 works out
+  pub reading-shown-exactly : (reading : Reading) → (readingOf level image counts ≡ Shown reading) ↔ (NoneGiven rows × ShowsReading image counts reading)
+  reading-shown-exactly reading = (λ e. rw e at reading-gives, λ g. by (readingOf level image counts) reading-gives g)
+    where
+      by : (a : Answer) → AnswerGives rows (ShowsReading image counts) a → NoneGiven rows × ShowsReading image counts reading → a ≡ Shown reading
+      by (Shown other) g h =
+          let counted = none-after (verdictTable level image) (countsTable image (onPaper counts)) (h .0) in
+          let accepted = verdict-accepted-exactly level image .1 (none-before (verdictTable level image) (countsTable image (onPaper counts)) (h .0)) in
+          ap Shown (shows-once image counts (accepted-readable level image accepted)
+          (positive (λ e. counted .1 .0 1 (refl, e))) (positive (λ e. counted .1 .1 .1 .1 .0 2 (refl, e))) other reading (g .1) (h .1))
+      by (Refused r) g h = absurd (none-or-first rows (r .number) (r .detail) (h .0) g)

@@ -33,6 +33,14 @@ pub none-append : (rows more : List Row) → NoneGiven rows → NoneGiven more �
 none-append [] more n m = m
 none-append (r ∷ rows) more n m = (n .0, none-append rows more (n .1) m)
 
+pub none-before : (rows more : List Row) → NoneGiven (rows ++ more) → NoneGiven rows
+none-before [] more n = tt
+none-before (r ∷ rows) more n = (n .0, none-before rows more (n .1))
+
+pub none-after : (rows more : List Row) → NoneGiven (rows ++ more) → NoneGiven more
+none-after [] more n = n
+none-after (r ∷ rows) more n = none-after rows more (n .1)
+
 pub first-append : (rows more : List Row) (number detail : ℕ) → NoneGiven rows → FirstGiven more number detail → FirstGiven (rows ++ more) number detail
 first-append [] more number detail n f = f
 first-append (r ∷ rows) more number detail n f = inr (n .0, first-append rows more number detail (n .1) f)

@@ -24,11 +24,11 @@ use Rattle.image.specs.Find.{bodyOf, isThere}
 use Rattle.image.specs.OrderLaws.{Ascending, sections-ascend}
 use Rattle.panel.specs.Levels.{isLevel, knows, mayPass}
 use Rattle.panel.specs.Verdict.{levelVerdict, unknownVerdict, missingVerdict, kindVerdict, thereVerdict, bodyVerdict, bodiesVerdict, sectionsVerdict, verdictOf}
-use Rattle.agreement.specs.TableLaws.{Gives, Judges, judged-alone, gives-append, gives-then, Single, single-append, row-once, lowest-once, refused-exactly, accepted-exactly}
+use Rattle.agreement.specs.TableLaws.{Gives, Judges, judged-alone, none-before, none-after, gives-append, gives-then, Single, single-append, row-once, lowest-once, refused-exactly, accepted-exactly}
 use Rattle.agreement.specs.TestsLaws.{Fails, fails-as, Passes, passes-eq, passes-or, passes-never, passes-as, passes-fails, ask-judges, judges-as}
 use Rattle.agreement.specs.FieldsAgree.{number-same}
 use Rattle.agreement.specs.KindsAgree.{later-above, found-is-had, had-is-found, there-passes}
-use Rattle.agreement.specs.LayoutAgrees.{NoneBelow, none-next, lowest, lowest-then, lowest-last, layout-gives, layout-single}
+use Rattle.agreement.specs.LayoutAgrees.{NoneBelow, none-next, lowest, lowest-then, lowest-last, layout-gives, layout-single, layout-accepted-exactly}
 use Rattle.agreement.specs.BodiesAgree.{identity-judges, set-judges, trim-judges, note-judges}
 
 -- ---- levels, and the kinds that each knows
@@ -216,35 +216,53 @@ module _ (level : ℕ) (image : List ℕ) where
 
 -- ---- what an acceptance says of the bodies that a reading takes
 
-none-after : (rows more : List Row) → NoneGiven (rows ++ more) → NoneGiven more
-none-after [] more n = n
-none-after (r ∷ rows) more n = none-after rows more (n .1)
-
 -- where no number is the lowest with a property, none has it
 none-without-lowest : (P : ℕ → Type 0) → ((k : ℕ) → Not (Lowest P k)) → (i : ℕ) → NoneBelow P i
 none-without-lowest P n zero = λ j h. absurd (omega arith)
 none-without-lowest P n (suc i) = let below = none-without-lowest P n i in none-next P i below (λ p. n i (p, below))
 
-pub record BodiesRight (level : ℕ) (image : List ℕ) : Type 0 where
-  pub identity : (body : List ℕ) → HasBody image 1 body → Not (IdentityWrong body)
-  pub pressureSet : (body : List ℕ) → HasBody image 2 body → Not (SetWrong body)
-  pub temperatureSet : (body : List ℕ) → HasBody image 3 body → Not (SetWrong body)
-  pub no-trim : level ≡ 1 → Not (HasKind image 4)
-  pub trim : (body : List ℕ) → HasBody image 4 body → Not (TrimWrong body)
+pub record Readable (image : List ℕ) : Type 0 where
+  pub good : layoutVerdict image ≡ Accepted
+  pub has-identity : HasKind image 1
+  pub has-pressure-set : HasKind image 2
+  pub has-temperature-set : HasKind image 3
+  pub pressure-set-right : (body : List ℕ) → HasBody image 2 body → Not (SetWrong body)
+  pub temperature-set-right : (body : List ℕ) → HasBody image 3 body → Not (SetWrong body)
+  pub trim-right : (body : List ℕ) → HasBody image 4 body → Not (TrimWrong body)
 
-pub body-right : (level : ℕ) (image : List ℕ) → verdictOf level image ≡ Accepted → BodiesRight level image
-body-right level image accepted =
-    let rows = verdict-accepted-exactly level image .0 accepted in
-    let kinds = none-after (row 20 0 (Not (IsLevel level)) ∷ layoutTable image) (sectionsTable level image) rows in
-    let bodies = kinds .1 .1 in
-    record {
-      identity = λ body h w. bodies .0 0 (refl, (body, h, w));
-      pressureSet = λ body h w. bodies .1 .0 0 (refl, (body, h, w));
-      temperatureSet = λ body h w. bodies .1 .1 .0 0 (refl, (body, h, w));
-      no-trim = no-trim (kinds .0);
-      trim = λ body h w. rows .0 0 (refl, ⊎-elim (λ one. no-trim (kinds .0) one (h .has)) (λ two. bodies .1 .1 .1 .0 0 (refl, (two, (body, h, w)))));
-    }
-  where
-    no-trim : NotGiven (lowest 9 (UnknownLow level image)) → level ≡ 1 → Not (HasKind image 4)
-    no-trim n one has =
-        none-without-lowest (UnknownLow level image) n 5 4 (omega arith) (has, omega arith, ⊎-elim (λ k. omega (arith, k .2)) (λ k. omega (arith, k .0)))
+module _ (level : ℕ) (image : List ℕ) (accepted : verdictOf level image ≡ Accepted) where
+  rows : NoneGiven (verdictTable level image)
+  rows = verdict-accepted-exactly level image .0 accepted
+
+  kinds : NoneGiven (sectionsTable level image)
+  kinds = none-after (row 20 0 (Not (IsLevel level)) ∷ layoutTable image) (sectionsTable level image) rows
+
+  laid : layoutVerdict image ≡ Accepted
+  laid = layout-accepted-exactly image .1 (none-before (layoutTable image) (sectionsTable level image) (rows .1))
+
+  -- kinds 1, 2 and 3 are there
+  there : (kind : ℕ) → 1 ≤ kind → kind ≤ 3 → HasKind image kind
+  there kind h k =
+      decide (isThere (bodyOf kind (sections image)))
+      (λ e. there-passes image kind laid .yes e)
+      (λ e. absurd (none-without-lowest (Missing image) (kinds .1 .0) 4 kind (omega arith) (h, k, there-passes image kind laid .no e)))
+
+  -- level 1 accepts no trim
+  pub no-trim : level ≡ 1 → Not (HasKind image 4)
+  no-trim one has =
+      none-without-lowest (UnknownLow level image) (kinds .0) 5 4 (omega arith) (has, omega arith, ⊎-elim (λ k. omega (arith, k .2)) (λ k. omega (arith, k .0)))
+
+  pub accepted-readable : Readable image
+  accepted-readable =
+      let bodies = kinds .1 .1 in
+      record {
+        good = laid;
+        has-identity = there 1 (omega arith) (omega arith);
+        has-pressure-set = there 2 (omega arith) (omega arith);
+        has-temperature-set = there 3 (omega arith) (omega arith);
+        pressure-set-right = λ body h w. bodies .1 .0 0 (refl, (body, h, w));
+        temperature-set-right = λ body h w. bodies .1 .1 .0 0 (refl, (body, h, w));
+        trim-right =
+            λ body h w.
+            rows .0 0 (refl, ⊎-elim (λ one. no-trim one (h .has)) (λ two. bodies .1 .1 .1 .0 0 (refl, (two, (body, h, w)))));
+      }
