@@ -1,0 +1,206 @@
+-- Any two results that a public function's contract allows for one call are equal: the answers, and what each lent buffer holds. The contract is the function's
+-- own: `Learnt` is what Rattle makes of its `ensures`. `tests/contracts` fails where a public function is left out.
+use mathlib.Core.Path.{refl, ap}
+use native.Mathlib.Omega.{arith}
+use lib.IntN.{natAbs}
+use Rattle.whole.proofs as whole
+use Rattle.whole.proofs.rounding as rounding
+use Rattle.numbers.proofs.fields as fields
+use Rattle.numbers.proofs.slices as slices
+use Rattle.refusals.proofs as refusals
+use Rattle.hexread.proofs as hexread
+use Rattle.hexwrite.proofs as hexwrite
+use Rattle.layout.proofs as layout
+use Rattle.finder.proofs as finder
+use Rattle.builder.proofs as builder
+use Rattle.sets.proofs as sets
+use Rattle.bodies.proofs as bodies
+use Rattle.reading.proofs as reading
+use Rattle.panel.proofs as panel
+use Rattle.bjorkneve.proofs as bjorkneve
+use Rattle.display.proofs as display
+use Rattle.contracts.specs.Contract.{Alike, Determines, SamePart}
+use Rattle.contracts.specs.ContractLaws.{determined, answers, is-part, is-found, fills, told-fills, first, next}
+use Rattle.contracts.specs.BuildReads as build
+
+-- whole
+pub magnitude-determined : Determines whole.magnitude.ended whole.magnitude.Reads.Learnt
+magnitude-determined _ _ _ _ _ _ = answers
+
+pub outside-determined : Determines whole.outside.ended whole.outside.Reads.Learnt
+outside-determined _ _ _ _ _ _ = answers
+
+pub beyond-determined : Determines whole.beyond.ended whole.beyond.Reads.Learnt
+beyond-determined _ _ _ _ _ _ = answers
+
+pub wrapped-sum-determined : Determines whole.wrapped_sum.ended whole.wrapped_sum.Reads.Learnt
+wrapped-sum-determined _ _ _ _ _ _ = answers
+
+pub rounded-over-2-24-determined : Determines rounding.rounded_over_2_24.ended rounding.rounded_over_2_24.Reads.Learnt
+rounded-over-2-24-determined _ _ _ _ _ _ = answers
+
+pub rounded-over-2-28-determined : Determines rounding.rounded_over_2_28.ended rounding.rounded_over_2_28.Reads.Learnt
+rounded-over-2-28-determined _ _ _ _ _ _ = answers
+
+pub rounded-over-2-32-determined : Determines rounding.rounded_over_2_32.ended rounding.rounded_over_2_32.Reads.Learnt
+rounded-over-2-32-determined _ _ _ _ _ _ = answers
+
+pub rounded-quotient-determined : Determines rounding.rounded_quotient.ended rounding.rounded_quotient.Reads.Learnt
+rounded-quotient-determined _ _ _ _ _ _ p q = (ap natAbs (determined p q), refl)
+
+-- numbers
+pub number1-determined : Determines fields.number1.ended fields.number1.Reads.Learnt
+number1-determined _ _ _ _ _ _ = answers
+
+pub number2-determined : Determines fields.number2.ended fields.number2.Reads.Learnt
+number2-determined _ _ _ _ _ _ = answers
+
+pub number4-determined : Determines fields.number4.ended fields.number4.Reads.Learnt
+number4-determined _ _ _ _ _ _ = answers
+
+pub number8-determined : Determines fields.number8.ended fields.number8.Reads.Learnt
+number8-determined _ _ _ _ _ _ = answers
+
+pub signed4-determined : Determines fields.signed4.ended fields.signed4.Reads.Learnt
+signed4-determined _ _ _ _ _ _ = answers
+
+pub signed8-determined : Determines fields.signed8.ended fields.signed8.Reads.Learnt
+signed8-determined _ _ _ _ _ _ = answers
+
+pub signed-of-8-determined : Determines fields.signed_of_8.ended fields.signed_of_8.Reads.Learnt
+signed-of-8-determined _ _ _ _ _ _ = answers
+
+pub side-by-side-determined : Determines fields.side_by_side.ended fields.side_by_side.Reads.Learnt
+side-by-side-determined _ _ _ _ _ _ p q = (omega (arith, determined (p .0) (q .0), determined (p .1) (q .1)), refl)
+
+pub byte-sum-determined : Determines slices.byte_sum.ended slices.byte_sum.Reads.Learnt
+byte-sum-determined _ _ _ _ _ _ = answers
+
+pub part-determined : Alike slices.part.ended slices.part.Reads.Learnt (λ _. SamePart)
+part-determined _ _ _ _ _ _ = is-part
+
+pub clear-from-determined : Determines slices.clear_from.ended slices.clear_from.Reads.Learnt
+clear-from-determined _ _ _ _ _ _ p q = first (refl, determined p q)
+
+-- refusals
+pub refused-determined : Determines refusals.refused.ended refusals.refused.Reads.Learnt
+refused-determined _ _ _ _ _ _ = answers
+
+pub tell-verdict-determined : Determines refusals.tell_verdict.ended refusals.tell_verdict.Reads.Learnt
+tell-verdict-determined _ _ _ _ _ _ = answers
+
+pub tell-filled-determined : Determines refusals.tell_filled.ended refusals.tell_filled.Reads.Learnt
+tell-filled-determined _ _ _ _ _ _ = answers
+
+pub settled-determined : Determines refusals.settled.ended refusals.settled.Reads.Learnt
+settled-determined _ _ _ _ _ _ p q = next (first (determined (p .same) (q .same), determined (p .cleared) (q .cleared)))
+
+-- hexread
+pub read-determined : Determines hexread.read.ended hexread.read.Reads.Learnt
+read-determined _ _ _ _ _ _ p q = next (first (fills p q))
+
+-- hexwrite
+pub write-determined : Determines hexwrite.write.ended hexwrite.write.Reads.Learnt
+write-determined _ _ _ _ _ _ p q = next (first (fills p q))
+
+-- layout
+pub layout-determined : Determines layout.layout.ended layout.layout.Reads.Learnt
+layout-determined _ _ _ _ _ _ = answers
+
+-- finder
+pub stated-determined : Determines finder.stated.ended finder.stated.Reads.Learnt
+stated-determined _ _ _ _ _ _ = answers
+
+pub place-of-determined : Determines finder.place_of.ended finder.place_of.Reads.Learnt
+place-of-determined _ _ _ _ _ _ = answers
+
+pub has-determined : Determines finder.has.ended finder.has.Reads.Learnt
+has-determined _ _ _ _ _ _ = answers
+
+pub tell-place-determined : Determines finder.tell_place.ended finder.tell_place.Reads.Learnt
+tell-place-determined _ _ _ _ _ _ = answers
+
+pub part-at-determined : Alike finder.part_at.ended finder.part_at.Reads.Learnt (λ _. SamePart)
+part-at-determined _ _ _ _ _ _ = is-part
+
+pub find-determined : Alike finder.find.ended finder.find.Reads.Learnt (λ _. SamePart)
+find-determined _ _ _ _ _ _ = is-found
+
+-- builder
+pub build-from-numbers-determined : Determines builder.build_from_numbers.ended builder.build_from_numbers.Reads.Learnt
+build-from-numbers-determined _ _ _ _ _ _ p q = next (next (next (first (fills p q))))
+
+pub build-determined : Determines builder.build.ended build.Learnt
+build-determined _ _ _ _ _ _ p q = next (next (first (fills p q)))
+
+-- sets
+pub read-set-determined : Determines sets.read_set.ended sets.read_set.Reads.Learnt
+read-set-determined _ _ _ _ _ _ = answers
+
+pub set-verdict-determined : Determines sets.set_verdict.ended sets.set_verdict.Reads.Learnt
+set-verdict-determined _ _ _ _ _ _ = answers
+
+pub read-grid-determined : Determines sets.read_grid.ended sets.read_grid.Reads.Learnt
+read-grid-determined _ _ _ _ _ _ = answers
+
+-- bodies
+pub read-identity-determined : Determines bodies.read_identity.ended bodies.read_identity.Reads.Learnt
+read-identity-determined _ _ _ _ _ _ = answers
+
+pub identity-verdict-determined : Determines bodies.identity_verdict.ended bodies.identity_verdict.Reads.Learnt
+identity-verdict-determined _ _ _ _ _ _ = answers
+
+pub read-trim-determined : Determines bodies.read_trim.ended bodies.read_trim.Reads.Learnt
+read-trim-determined _ _ _ _ _ _ = answers
+
+pub trim-verdict-determined : Determines bodies.trim_verdict.ended bodies.trim_verdict.Reads.Learnt
+trim-verdict-determined _ _ _ _ _ _ = answers
+
+pub note-verdict-determined : Determines bodies.note_verdict.ended bodies.note_verdict.Reads.Learnt
+note-verdict-determined _ _ _ _ _ _ = answers
+
+-- reading
+pub measured-determined : Determines reading.measured.ended reading.measured.Reads.Learnt
+measured-determined _ _ _ _ _ _ = answers
+
+pub tell-answer-determined : Determines reading.tell_answer.ended reading.tell_answer.Reads.Learnt
+tell-answer-determined _ _ _ _ _ _ = answers
+
+-- panel
+pub verdict-determined : Determines panel.verdict.ended panel.verdict.Reads.Learnt
+verdict-determined _ _ _ _ _ _ = answers
+
+pub reading-determined : Determines panel.reading.ended panel.reading.Reads.Learnt
+reading-determined _ _ _ _ _ _ = answers
+
+pub load-determined : Determines panel.load.ended panel.load.Reads.Learnt
+load-determined _ _ _ _ _ _ p q = next (next (first (fills p q)))
+
+-- bjorkneve
+pub bjorkneve-read-determined : Determines bjorkneve.bjorkneve_read.ended bjorkneve.bjorkneve_read.Reads.Learnt
+bjorkneve-read-determined _ _ _ _ _ _ p q = next (first (told-fills p q))
+
+pub bjorkneve-write-determined : Determines bjorkneve.bjorkneve_write.ended bjorkneve.bjorkneve_write.Reads.Learnt
+bjorkneve-write-determined _ _ _ _ _ _ p q = next (first (told-fills p q))
+
+pub bjorkneve-load-determined : Determines bjorkneve.bjorkneve_load.ended bjorkneve.bjorkneve_load.Reads.Learnt
+bjorkneve-load-determined _ _ _ _ _ _ p q = next (next (first (told-fills p q)))
+
+pub bjorkneve-layout-determined : Determines bjorkneve.bjorkneve_layout.ended bjorkneve.bjorkneve_layout.Reads.Learnt
+bjorkneve-layout-determined _ _ _ _ _ _ = answers
+
+pub bjorkneve-verdict-determined : Determines bjorkneve.bjorkneve_verdict.ended bjorkneve.bjorkneve_verdict.Reads.Learnt
+bjorkneve-verdict-determined _ _ _ _ _ _ = answers
+
+pub bjorkneve-find-determined : Determines bjorkneve.bjorkneve_find.ended bjorkneve.bjorkneve_find.Reads.Learnt
+bjorkneve-find-determined _ _ _ _ _ _ = answers
+
+pub bjorkneve-build-determined : Determines bjorkneve.bjorkneve_build.ended bjorkneve.bjorkneve_build.Reads.Learnt
+bjorkneve-build-determined _ _ _ _ _ _ p q = next (next (next (first (told-fills p q))))
+
+pub bjorkneve-reading-determined : Determines bjorkneve.bjorkneve_reading.ended bjorkneve.bjorkneve_reading.Reads.Learnt
+bjorkneve-reading-determined _ _ _ _ _ _ = answers
+
+-- display
+pub show-determined : Determines display.show.ended display.show.Reads.Learnt
+show-determined _ _ _ _ _ _ p q = next (first (determined (p .0) (q .0), determined (p .1 .0) (q .1 .0)))

@@ -1,0 +1,5 @@
+pub mod Contract
+pub mod BuildReads
+pub mod ContractLaws
+pub mod Determined
+pub mod Free

@@ -1,0 +1,1 @@
+// No code: what the public functions' own contracts say, in specs/.
