@@ -6,7 +6,6 @@ pub mod Manual
 pub mod Demand1
 pub mod Demand2
 pub mod Demand3
-pub mod Determined
 pub mod Demand1Examples
 pub mod Demand3Examples
 pub mod Demand2Examples
