@@ -1,6 +1,7 @@
 pub mod Format
 pub mod Faults
 pub mod Damage
+pub mod Writing
 pub mod Agrees
 pub mod GoodTexts
 pub mod RoundTrip
@@ -12,6 +13,7 @@ pub mod ReadingLaws
 pub mod JudgedLaws
 pub mod ComesLaws
 pub mod WrittenLaws
+pub mod WritingLaws
 pub mod SumLaws
 pub mod PartLaws
 pub mod CharacterLaws

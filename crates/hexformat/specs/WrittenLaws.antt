@@ -12,7 +12,7 @@ use Rattle.laws.specs.SumsLaws.{total-append}
 use Rattle.hextext.specs.Written.{hexDigit, spell, checksum, headAndData, recordText, writing}
 use Rattle.laws.specs.Bytes.{Bytes}
 use Rattle.laws.specs.BytesLaws.{bytes-nil, bytes-cons, bytes-append, bytes-take, bytes-drop}
-use Rattle.hexformat.specs.Format.{Digit, decimal, upperCase, Spelled, nothing, pair, lf, Fields, Form, Balanced, DataLines, next, GoodText}
+use Rattle.hexformat.specs.Format.{Digit, decimal, upperCase, Spelled, nothing, pair, lf, Fields, bytes, Form, Balanced, DataLines, next, GoodText}
 
 -- ---- a record
 
@@ -23,7 +23,7 @@ digit-written n h =
     (λ k. rw (le-ltb n 10 k) (upperCase k h (omega arith)))
     (λ k. rw (lt-ltb n 10 k) (decimal k refl))
 
-spelled-written : (b : List ℕ) → Bytes b → Spelled b (spell b)
+pub spelled-written : (b : List ℕ) → Bytes b → Spelled b (spell b)
 unfolding spell
 spelled-written [] w = nothing
 spelled-written (b ∷ l) w =
@@ -31,30 +31,34 @@ spelled-written (b ∷ l) w =
     pair (digit-written (b / 16) (omega arith)) (digit-written (b % 16) (omega arith)) (spelled-written l (λ i. w (suc i)))
 
 -- the record that is written of some data
-abbrev written : (address type : ℕ) → List ℕ → Fields
+abbrev pub written : (address type : ℕ) → List ℕ → Fields
 written address type d = record { type = type; address = address; contents = d; checksum = checksum (headAndData address type d) }
 
 module _ (address type : ℕ) (d : List ℕ) where
-  written-balanced : Balanced (written address type d)
+  pub written-balanced : Balanced (written address type d)
   unfolding headAndData checksum total
   written-balanced =
       let h : List ℕ = headAndData address type d in
       rw (total-append h (checksum h ∷ [])) (omega arith)
 
-  written-form : address < 65536 → type < 256 → length d < 256 → Bytes d → Form (written address type d) (recordText address type d)
-  unfolding headAndData checksum recordText
-  written-form ha ht hd w =
+  pub written-bytes : address < 65536 → type < 256 → length d < 256 → Bytes d → Bytes (bytes (written address type d))
+  unfolding headAndData checksum
+  written-bytes ha ht hd w =
       let h : List ℕ = headAndData address type d in
       let a : Bytes h =
       bytes-cons (length d) (address / 256 ∷ address % 256 ∷ type ∷ d) hd
       (bytes-cons (address / 256) (address % 256 ∷ type ∷ d) (omega arith)
       (bytes-cons (address % 256) (type ∷ d) (omega arith) (bytes-cons type d ht w))) in
-      let c : Bytes (h ++ checksum h ∷ []) = bytes-append h (checksum h ∷ []) a (bytes-cons (checksum h) [] (omega arith) bytes-nil) in
+      bytes-append h (checksum h ∷ []) a (bytes-cons (checksum h) [] (omega arith) bytes-nil)
+
+  written-form : address < 65536 → type < 256 → length d < 256 → Bytes d → Form (written address type d) (recordText address type d)
+  unfolding headAndData recordText
+  written-form ha ht hd w =
       record {
-        digits = spell (h ++ checksum h ∷ []);
+        digits = spell (bytes (written address type d));
         ending = 10 ∷ [];
         is = refl;
-        spelled = spelled-written (h ++ checksum h ∷ []) c;
+        spelled = spelled-written (bytes (written address type d)) (written-bytes ha ht hd w);
         ends = lf;
       }
 
@@ -74,7 +78,7 @@ end-good {count} {image} {before} lines =
       ends = record { type-01 = refl; count-0 = refl; address-0 = refl };
     }
 
-writing-nothing : (most address : ℕ) → writing most address [] ≡ recordText 0 1 []
+pub writing-nothing : (most address : ℕ) → writing most address [] ≡ recordText 0 1 []
 unfolding writing
 writing-nothing zero address = refl
 writing-nothing (suc most) address = refl
