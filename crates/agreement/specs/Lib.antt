@@ -2,6 +2,7 @@ pub mod TableLaws
 pub mod TestsLaws
 pub mod FieldsAgree
 pub mod NearestLaws
+pub mod WriterAgrees
 pub mod KindsAgree
 pub mod LayoutAgrees
 pub mod BodiesAgree

@@ -11,8 +11,8 @@ use Rattle.laws.specs.Cases.{split}
 use Rattle.refusals.specs.declared.Refusal.{Refusal}
 use Rattle.refusals.specs.declared.Verdict.{Verdict}
 use Rattle.refusals.specs.declared.Verdict.the-variants.{Accepted, Refused}
-use Rattle.refusals.specs.Refusals.{refusal, andThen}
-use Rattle.refusals.specs.VerdictLaws.{never-both}
+use Rattle.refusals.specs.Refusals.{refusal, andThen, result, refused, checked}
+use Rattle.refusals.specs.VerdictLaws.{checked-result, checked-refused}
 
 -- ---- what a table says to a verdict
 
@@ -110,3 +110,15 @@ module _ (rows : List Row) (single : Single rows) (v : Verdict) (gives : Gives r
       by : (w : Verdict) → Gives rows w → NoneGiven rows → w ≡ Accepted
       by Accepted g n = refl
       by (Refused q) g n = absurd (none-or-first rows (q .number) (q .detail) n g)
+
+  -- the same of a buffer that is filled after the checks
+  pub filling-refused-exactly : (x : List ℕ) (number detail : ℕ) → (checked v x ≡ refused (refusal number detail)) ↔ FirstGiven rows number detail
+  filling-refused-exactly x number detail =
+      let so = refused-exactly number detail in
+      (λ e. so .0 (checked-refused v x (refusal number detail) e), λ f. rw (so .1 f))
+
+  pub filled-exactly : (x y : List ℕ) → (checked v x ≡ result y) ↔ (NoneGiven rows × (x ≡ y))
+  filled-exactly x y = (
+    λ e. let c = checked-result v x y e in (accepted-exactly .0 (c .0), c .1),
+    λ f. rw (accepted-exactly .1 (f .0), f .1),
+  )

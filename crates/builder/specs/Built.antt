@@ -1,5 +1,5 @@
 -- What the builder's images are.
-use mathlib.Core.Path.{_≡_, refl, sym, ap, _∙_}
+use mathlib.Core.Path.{_≡_, sym, ap, _∙_}
 use mathlib.Core.Logic.{_↔_}
 use mathlib.Core.List.{List}
 use mathlib.Core.Option.{some}
@@ -8,9 +8,9 @@ use native.Mathlib.Nat.{le-refl}
 use native.Mathlib.Omega.{arith}
 use lib.ListN.{length, getD}
 use Rattle.laws.specs.Bytes.{Bytes}
-use Rattle.refusals.specs.declared.Verdict.{Verdict}
-use Rattle.refusals.specs.declared.Verdict.the-variants.{Accepted, Refused}
-use Rattle.refusals.specs.Refusals.{result, checked}
+use Rattle.refusals.specs.declared.Verdict.the-variants.{Accepted}
+use Rattle.refusals.specs.Refusals.{result}
+use Rattle.refusals.specs.VerdictLaws.{checked-result}
 use Rattle.image.specs.Layout.{layoutVerdict}
 use Rattle.image.specs.Sections.{sections, bodiesOf, imageOf, Fit}
 use Rattle.image.specs.RoundTrip.{image-length, image-good, image-bytes, sections-of-image}
@@ -22,15 +22,10 @@ use Rattle.builder.specs.Build.{sectionsOf, buildVerdict, buildImage, Bu
 use Rattle.builder.specs.Lines.{linesOf, noLine, bodyGiven}
 use Rattle.builder.specs.BuildLaws.{line-small, line-short, body-given, Passed, passed, passes, sections-counted, bodies-whole, sections-rise, lines-counted, lines-total, lines-rise, sections-again}
 
--- a result says that the checks are passed, and what it is
-result-is : (v : Verdict) (x image : List ℕ) → checked v x ≡ result image → (v ≡ Accepted) × (x ≡ image)
-result-is Accepted x image e = (refl, cc)
-result-is (Refused r) x image e = let z : _≡_ {A = ℕ} 0 1 = cc in absurd (omega arith)
-
 module _ (size : ℕ) (lines : List Line) (bodies image : List ℕ) (made : buildImage size lines bodies ≡ result image) where
   checked-as : (buildVerdict size lines bodies ≡ Accepted) × (imageOf (sectionsOf lines bodies) ≡ image)
   unfolding buildImage
-  checked-as = result-is (buildVerdict size lines bodies) (imageOf (sectionsOf lines bodies)) image made
+  checked-as = checked-result (buildVerdict size lines bodies) (imageOf (sectionsOf lines bodies)) image made
 
   kept-to : Passed size lines bodies
   kept-to = passed size lines bodies (checked-as .0)

@@ -1,12 +1,13 @@
 -- Laws of checks in order: what passes, and what the first refusal stops.
-use mathlib.Core.Path.{_≡_, refl}
+use mathlib.Core.Path.{_≡_, refl, ap}
 use mathlib.Core.Bool.{Bool, true, false}
+use mathlib.Core.List.{List}
 use Prim.Native.Nat.{ℕ}
 use native.Mathlib.Omega.{arith}
 use Rattle.refusals.specs.declared.Refusal.{Refusal}
 use Rattle.refusals.specs.declared.Verdict.{Verdict}
 use Rattle.refusals.specs.declared.Verdict.the-variants.{Accepted, Refused}
-use Rattle.refusals.specs.Refusals.{refusal, ask, andThen}
+use Rattle.refusals.specs.Refusals.{refusal, ask, andThen, result, refused, checked}
 
 pub never-both {ℓ} : {X : Type ℓ} {v : Verdict} {r : Refusal} → v ≡ Refused r → v ≡ Accepted → X
 never-both e f = let z : _≡_ {A = ℕ} 0 1 = cc in absurd (omega arith)
@@ -40,3 +41,12 @@ first-passed (Refused r) next e = e
 pub next-passed : (first next : Verdict) → andThen first next ≡ Accepted → next ≡ Accepted
 next-passed Accepted next e = e
 next-passed (Refused r) next e = never-both refl e
+
+-- checks, then a result: what is filled in says what the checks came to
+pub checked-result : (v : Verdict) (x y : List ℕ) → checked v x ≡ result y → (v ≡ Accepted) × (x ≡ y)
+checked-result Accepted x y e = (refl, cc)
+checked-result (Refused r) x y e = let z : _≡_ {A = ℕ} 0 1 = cc in absurd (omega arith)
+
+pub checked-refused : (v : Verdict) (x : List ℕ) (r : Refusal) → checked v x ≡ refused r → v ≡ Refused r
+checked-refused Accepted x r e = let z : _≡_ {A = ℕ} 0 1 = cc in absurd (omega arith)
+checked-refused (Refused q) x r e = ap Refused (cc)
