@@ -5,6 +5,7 @@ pub mod NearestLaws
 pub mod WriterAgrees
 pub mod KindsAgree
 pub mod LayoutAgrees
+pub mod FinderAgrees
 pub mod BodiesAgree
 pub mod VerdictAgrees
 pub mod ValueLaws
