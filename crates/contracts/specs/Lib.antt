@@ -3,3 +3,4 @@ pub mod BuildReads
 pub mod ContractLaws
 pub mod Determined
 pub mod Free
+pub mod Lent

@@ -1,0 +1,1 @@
+// No code: what is known of the arguments of any call, in specs/.
