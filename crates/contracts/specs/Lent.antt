@@ -1,8 +1,13 @@
 -- The law of lent bytes at functions of each shape that the demands are about: the image that is written, judged, searched or read from, the text, the bodies.
+use mathlib.Core.List.{List}
+use mathlib.Core.Path.{_≡_}
+use Prim.Native.Nat.{ℕ, _^_, _<_}
+use lib.ListN.{length}
 use denote.Ref.{now}
 use Rattle.laws.specs.Bytes.{Bytes}
 use Rattle.lent.specs.Call.{Call, shared, next}
 use Rattle.lent.specs.CallLaws.{lent-bytes}
+use Rattle.lent.specs.LendLaws.{lendable}
 use Rattle.hexread.proofs as hexread
 use Rattle.hexwrite.proofs as hexwrite
 use Rattle.layout.proofs as layout
@@ -27,3 +32,8 @@ bodies-bytes call = lent-bytes call (next (shared 1 tt))
 
 pub reading-bytes : (call : Call panel.reading.signature) → Bytes (now (call .arguments .0))
 reading-bytes call = lent-bytes call (shared 0 tt)
+
+-- And any image can be lent to the writer, with any buffer.
+pub write-lendable : (image text : List ℕ) → Bytes image → Bytes text → length image < 2 ^ 63 → length text < 2 ^ 63
+    → ∥ ((call : Call hexwrite.write.signature) × (now (call .arguments .0) ≡ image) × (now (call .arguments .1 .0) ≡ text)) ∥₁
+write-lendable = lendable _

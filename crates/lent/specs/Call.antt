@@ -1,6 +1,6 @@
 -- The calls that there can be of a function, and the bytes that are lent to it.
 use Prim.Native.Nat.{ℕ}
-use mathlib.Core.List.{List, _∷_}
+use mathlib.Core.List.{List, [], _∷_}
 use contract.Lifetimes.{Lfts, Within}
 use denote.Builtin.{SliceRef, SliceRefMut, u8}
 use denote.RattleType.{Denots}
@@ -32,3 +32,7 @@ bytesAt (next p) κs a = bytesAt p κs (a .1)
 
 abbrev pub lent : {signature : Signature} → Call signature → BytesAt (signature .params) → List ℕ
 lent call p = bytesAt p (call .lifetimes) (call .arguments)
+
+-- The signature of a function that takes a slice of bytes and a buffer.
+abbrev pub SliceAndBuffer : (result : Slot 2) → Signature
+SliceAndBuffer result = record { lifetimes = 2; outlives = []; params = SliceRef 0 tt u8 tt ∷ SliceRefMut 1 tt u8 tt ∷ []; result = result }
