@@ -2,7 +2,7 @@
 use mathlib.Core.List.{List, [], _∷_}
 use mathlib.Core.Logic.{_⊎_}
 use mathlib.Core.Path.{_≡_}
-use Prim.Native.Nat.{ℕ}
+use Prim.Native.Nat.{ℕ, _≤_}
 use Rattle.paper.specs.Words.{Not}
 
 -- a number, and when it is given with which detail
@@ -29,4 +29,4 @@ FirstGiven (r ∷ rows) number detail = ((number ≡ r .number) × r .given deta
 
 -- what a call tells in numbers: the first row given, or 0 and 0 where there is none
 abbrev pub Tells : List Row → (number detail : ℕ) → Type 0
-Tells rows number detail = FirstGiven rows number detail ⊎ (NoneGiven rows × (number ≡ 0) × (detail ≡ 0))
+Tells rows number detail = ((1 ≤ number) × FirstGiven rows number detail) ⊎ ((number ≡ 0) × (detail ≡ 0) × NoneGiven rows)
