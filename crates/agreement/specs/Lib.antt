@@ -6,6 +6,8 @@ pub mod WriterAgrees
 pub mod KindsAgree
 pub mod LayoutAgrees
 pub mod FinderAgrees
+pub mod BuilderTableLaws
+pub mod BuilderAgrees
 pub mod BodiesAgree
 pub mod VerdictAgrees
 pub mod ValueLaws

@@ -8,7 +8,7 @@ use native.Mathlib.Omega.{arith}
 use borrow.Author.Tests.{leb-true, ltb-true, eqb-true, le-leb, lt-ltb, eq-eqb, ne-eqb}
 use lib.Dec.{leb, ltb, eqb}
 use lib.ListN.{length, take, drop, getD, length-append, length-drop, take-append-drop}
-use lib.Seq.{take-append-seam, drop-append-seam, drop-drop}
+use lib.Seq.{length-take-le, take-append-seam, drop-append-seam, drop-drop}
 use Rattle.laws.specs.Cases.{both-left, both-right}
 use Rattle.refusals.specs.declared.Verdict.the-variants.{Accepted}
 use Rattle.refusals.specs.Refusals.{ask}
@@ -97,6 +97,15 @@ pub sections-again : (ss : List Section) → sectionsOf (linesOf ss) (bodiesOf s
 unfolding sectionsOf linesOf bodiesOf
 sections-again [] = refl
 sections-again (s ∷ ss) = rw (take-append-seam (s .body) (bodiesOf ss), drop-append-seam (s .body) (bodiesOf ss), sections-again ss)
+
+pub lines-again : (lines : List Line) (bodies : List ℕ) → lengthsTotal lines ≡ length bodies → linesOf (sectionsOf lines bodies) ≡ lines
+unfolding sectionsOf linesOf lengthsTotal
+lines-again [] bodies e = refl
+lines-again (l ∷ lines) bodies e =
+    rw (
+      length-take-le (l .length) bodies (omega arith),
+      lines-again lines (drop (l .length) bodies) (omega (arith, length-drop (l .length) bodies)),
+    )
 
 -- ---- 18, 19 and 17 passed
 

@@ -27,7 +27,7 @@ module _ (size : ℕ) (lines : List Line) (bodies image : List ℕ) (made : buil
   unfolding buildImage
   checked-as = checked-result (buildVerdict size lines bodies) (imageOf (sectionsOf lines bodies)) image made
 
-  kept-to : Passed size lines bodies
+  pub kept-to : Passed size lines bodies
   kept-to = passed size lines bodies (checked-as .0)
 
   fit : Fit (sectionsOf lines bodies)

@@ -1,19 +1,19 @@
 -- The lines that two lists of numbers give: their number, kinds and lengths, and the lines from line i on.
-use mathlib.Core.Path.{_≡_, refl, ap}
+use mathlib.Core.Path.{_≡_, refl, ap, _∙_}
 use mathlib.Core.List.{List, [], _∷_, _++_}
 use Prim.Native.Nat.{ℕ, zero, suc, _+_, _≤_, _<_}
 use native.Mathlib.Numerals.{add-one}
 use native.Mathlib.Omega.{arith}
 use borrow.Author.Tests.{eq-eqb, ne-eqb, eqb-true, eqb-false}
 use lib.Dec.{eqb}
-use lib.ListN.{length, drop, getD, length-append, drop-of-length-le}
+use lib.ListN.{length, drop, getD, length-append, length-map, drop-of-length-le}
 use lib.Seq.{drop-cons}
 use Rattle.laws.specs.Cases.{split, decide}
 use Rattle.laws.specs.Sums.{total}
 use Rattle.refusals.specs.Refusals.{refusal, refused}
 use Rattle.builder.specs.declared.Line.{Line}
 use Rattle.builder.specs.Build.{lengthsTotal, buildVerdict, buildImage}
-use Rattle.builder.specs.Lines.{paired, linesGiven, noLine}
+use Rattle.builder.specs.Lines.{paired, linesGiven, kindsOf, lengthsOf, noLine}
 
 pub given-uneven : (kinds lengths : List ℕ) → (length kinds ≡ length lengths → ⊥) → linesGiven kinds lengths ≡ []
 unfolding linesGiven
@@ -44,12 +44,14 @@ paired-total [] (l ∷ lengths) e = absurd (omega arith)
 paired-total (k ∷ kinds) [] e = absurd (omega arith)
 paired-total (k ∷ kinds) (l ∷ lengths) e = ap (λ n. l + n) (paired-total kinds lengths (omega arith))
 
-paired-kind : (kinds lengths : List ℕ) (i : ℕ) → length kinds ≡ length lengths → getD (paired kinds lengths) i noLine .kind ≡ getD kinds i 0
+paired-line : (kinds lengths : List ℕ) (i : ℕ) → length kinds ≡ length lengths
+    → getD (paired kinds lengths) i noLine ≡ record { kind = getD kinds i 0; length = getD lengths i 0 }
 unfolding paired
-paired-kind [] lengths i e = refl
-paired-kind (k ∷ kinds) [] i e = absurd (omega arith)
-paired-kind (k ∷ kinds) (l ∷ lengths) zero e = refl
-paired-kind (k ∷ kinds) (l ∷ lengths) (suc i) e = paired-kind kinds lengths i (omega arith)
+paired-line [] [] i e = refl
+paired-line [] (l ∷ lengths) i e = absurd (omega arith)
+paired-line (k ∷ kinds) [] i e = absurd (omega arith)
+paired-line (k ∷ kinds) (l ∷ lengths) zero e = refl
+paired-line (k ∷ kinds) (l ∷ lengths) (suc i) e = paired-line kinds lengths i (omega arith)
 
 paired-append : (kinds lengths : List ℕ) (line : Line) → length kinds ≡ length lengths
     → paired (kinds ++ line .kind ∷ []) (lengths ++ line .length ∷ []) ≡ paired kinds lengths ++ line ∷ []
@@ -81,8 +83,24 @@ module _ (kinds lengths : List ℕ) where
         let longer : length (kinds ++ line .kind ∷ []) ≡ length (lengths ++ line .length ∷ []) = omega (arith, length-append kinds (line .kind ∷ []), length-append lengths (line .length ∷ [])) in
         rw (given-paired kinds lengths e, given-paired (kinds ++ line .kind ∷ []) (lengths ++ line .length ∷ []) longer) (paired-append kinds lengths line e)
 
+    pub given-line : (i : ℕ) → getD (linesGiven kinds lengths) i noLine ≡ record { kind = getD kinds i 0; length = getD lengths i 0 }
+    given-line i = rw (given-paired kinds lengths e) (paired-line kinds lengths i e)
+
     pub given-kind : (i : ℕ) → getD (linesGiven kinds lengths) i noLine .kind ≡ getD kinds i 0
-    given-kind i = rw (given-paired kinds lengths e) (paired-kind kinds lengths i e)
+    given-kind i = ap (λ (line : Line). line .kind) (given-line i)
+
+-- ---- any list of lines is given so
+
+paired-again : (lines : List Line) → paired (kindsOf lines) (lengthsOf lines) ≡ lines
+unfolding paired
+paired-again [] = refl
+paired-again (l ∷ lines) = ap (λ (rest : List Line). l ∷ rest) (paired-again lines)
+
+pub given-again : (lines : List Line) → linesGiven (kindsOf lines) (lengthsOf lines) ≡ lines
+given-again lines =
+    let even : length (kindsOf lines) ≡ length (lengthsOf lines) =
+    omega (arith, length-map lines (λ (line : Line). line .kind), length-map lines (λ (line : Line). line .length)) in
+    given-paired (kindsOf lines) (lengthsOf lines) even ∙ paired-again lines
 
 -- ---- the lines from line i on
 

@@ -1,6 +1,6 @@
 -- Lines and bodies: the lines that two lists of numbers give, the lines that a list of sections is built from, and the body that a line is given.
 use mathlib.Core.Bool.{cond}
-use mathlib.Core.List.{List, [], _∷_}
+use mathlib.Core.List.{List, [], _∷_, map}
 use Prim.Native.Nat.{ℕ}
 use lib.Dec.{eqb}
 use lib.ListN.{length, take, drop, getD}
@@ -17,6 +17,13 @@ paired (k ∷ kinds) (l ∷ lengths) = record { kind = k; length = l } ∷ paire
 -- line i is kinds[i] with lengths[i]; where they are not equally many there is no line
 unfoldable pub linesGiven : (kinds lengths : List ℕ) → List Line
 linesGiven kinds lengths = cond (eqb (length kinds) (length lengths)) (paired kinds lengths) []
+
+-- and the kinds and the lengths of lines, as two such lists
+abbrev pub kindsOf : List Line → List ℕ
+kindsOf lines = map (λ (line : Line). line .kind) lines
+
+abbrev pub lengthsOf : List Line → List ℕ
+lengthsOf lines = map (λ (line : Line). line .length) lines
 
 unfoldable pub linesOf : List Section → List Line
 linesOf [] = []
