@@ -17,6 +17,8 @@ use Rattle.image.specs.Sections.{Section, sectionsFrom, sections, conten
 use Rattle.image.specs.LineLaws.{line-spelled}
 use Rattle.image.specs.LayoutLaws.{line-passed, lines-ended, sum-passed, layout-passed}
 use Rattle.image.specs.RoundTrip.{Holds}
+use Rattle.image.specs.Find.{bodyOf}
+use Rattle.image.specs.OrderLaws.{sections-ascend, told-by-bodies}
 
 count-from : (image : List ℕ) (left i : ℕ) → length (sectionsFrom image left i) ≡ left
 unfolding sectionsFrom
@@ -103,3 +105,10 @@ module _ (image : List ℕ) (b : Bytes image) (good : layoutVerdict image ≡ Ac
       sym
       (drop-two image 0 (g .started .enough)
       ∙ rw (← byte-at image 0, g .started .marked, ← byte-at image 1, held .contents, zero-add (length (sections image)), sections-count image, held .bodies))
+
+-- so one is told by its bodies: where each kind has the same body in two such images, or none in either, these are equal byte for byte
+pub same-bodies-same-image : (image image′ : List ℕ) → Bytes image → Bytes image′ → layoutVerdict image ≡ Accepted → layoutVerdict image′ ≡ Accepted
+    → ((kind : ℕ) → bodyOf kind (sections image) ≡ bodyOf kind (sections image′)) → image ≡ image′
+same-bodies-same-image image image′ b b′ good good′ same =
+    let sections-same = told-by-bodies 0 0 (sections image) (sections image′) (sections-ascend image good) (sections-ascend image′ good′) same in
+    sym (image-of-sections image b good) ∙ ap imageOf sections-same ∙ image-of-sections image′ b′ good′

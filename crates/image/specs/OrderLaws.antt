@@ -1,10 +1,12 @@
 -- Laws of the order of kinds: it strictly rises in a good layout, and a kind is not among those above it.
 use mathlib.Core.List.{List, [], _∷_}
-use mathlib.Core.Option.{none}
-use mathlib.Core.Path.{_≡_, refl}
+use mathlib.Core.Option.{none, some}
+use mathlib.Core.Path.{_≡_, refl, sym, _∙_}
 use Prim.Native.Nat.{ℕ, zero, suc, _+_, _≤_, _<_}
+use native.Mathlib.Nat.{le-refl}
 use native.Mathlib.Omega.{arith}
-use borrow.Author.Tests.{ne-eqb}
+use borrow.Author.Tests.{eq-eqb, ne-eqb}
+use Rattle.laws.specs.Cases.{split}
 use Rattle.refusals.specs.declared.Verdict.the-variants.{Accepted}
 use Rattle.image.specs.Layout.{lineCount, linePlace, kindAt, lengthAt, linesVerdict, layoutVerdict}
 use Rattle.image.specs.Sections.{Section, sectionsFrom, sections, Rising}
@@ -36,3 +38,46 @@ unfolding bodyOf
 none-below previous kind [] rising h = refl
 none-below previous kind (s ∷ ss) rising h =
     rw (ne-eqb kind (s .kind) (λ e. omega (arith, rising .0))) (none-below (s .kind) kind ss (rising .1) (omega (arith, rising .0)))
+
+-- ---- sections of rising kinds are told by their bodies
+
+module _ (kind : ℕ) (s : Section) (ss : List Section) where
+  first-body : kind ≡ s .kind → bodyOf kind (s ∷ ss) ≡ some (s .body)
+  unfolding bodyOf
+  first-body e = rw (eq-eqb kind (s .kind) e)
+
+  later-body : s .kind < kind → bodyOf kind (s ∷ ss) ≡ bodyOf kind ss
+  unfolding bodyOf
+  later-body h = rw (ne-eqb kind (s .kind) (λ e. omega arith))
+
+-- where no body is to be had, there is no section,
+never-none : {X : Type 0} (s : Section) (ss : List Section) → bodyOf (s .kind) (s ∷ ss) ≡ none → X
+never-none s ss e = let z : _≡_ {A = ℕ} 0 1 = cc (first-body (s .kind) s ss refl) in absurd (omega arith)
+
+-- and where all bodies are the same, the first kind is no lower, and the other bodies are the same
+module _ (s t : Section) (ss ts : List Section) (rising : Ascending (s .kind) ss) (rising′ : Ascending (t .kind) ts)
+    (same : (kind : ℕ) → bodyOf kind (s ∷ ss) ≡ bodyOf kind (t ∷ ts)) where
+  no-lower : t .kind ≤ s .kind
+  no-lower =
+      split (t .kind) (s .kind) (λ h. h)
+      (λ (h : s .kind < t .kind). never-none s ss (same (s .kind) ∙ none-below (s .kind) (s .kind) (t ∷ ts) (h, rising′) (le-refl (s .kind))))
+
+  others-same : s .kind ≡ t .kind → (kind : ℕ) → bodyOf kind ss ≡ bodyOf kind ts
+  others-same e kind =
+      split kind (s .kind)
+      (λ (h : kind ≤ s .kind). none-below (s .kind) kind ss rising h ∙ sym (none-below (t .kind) kind ts rising′ (omega arith)))
+      (λ (h : s .kind < kind). sym (later-body kind s ss h) ∙ same kind ∙ later-body kind t ts (omega arith))
+
+pub told-by-bodies : (previous previous′ : ℕ) (ss ts : List Section) → Ascending previous ss → Ascending previous′ ts
+    → ((kind : ℕ) → bodyOf kind ss ≡ bodyOf kind ts) → ss ≡ ts
+unfolding bodyOf
+told-by-bodies previous previous′ [] [] rising rising′ same = refl
+told-by-bodies previous previous′ [] (t ∷ ts) rising rising′ same = never-none t ts (sym (same (t .kind)))
+told-by-bodies previous previous′ (s ∷ ss) [] rising rising′ same = never-none s ss (same (s .kind))
+told-by-bodies previous previous′ (s ∷ ss) (t ∷ ts) rising rising′ same =
+    let low = no-lower s t ss ts (rising .1) (rising′ .1) same in
+    let high = no-lower t s ts ss (rising′ .1) (rising .1) (λ kind. sym (same kind)) in
+    let e : s .kind ≡ t .kind = omega arith in
+    let body : s .body ≡ t .body = cc (first-body (s .kind) s ss refl, same (s .kind), first-body (s .kind) t ts e) in
+    let others = told-by-bodies (s .kind) (t .kind) ss ts (rising .1) (rising′ .1) (others-same s t ss ts (rising .1) (rising′ .1) same e) in
+    λ i. record { kind = e i; body = body i } ∷ others i
