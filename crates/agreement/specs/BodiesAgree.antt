@@ -1,5 +1,5 @@
 -- The verdict on each body is document 01's: identity, pressure set and temperature set, trim, note.
-use mathlib.Core.Bool.{Bool, true, false, cond, _&&_, _||_}
+use mathlib.Core.Bool.{Bool, true, false, cond, _&&_, _||_, and-assoc}
 use mathlib.Core.List.{List, [], _∷_}
 use mathlib.Core.Logic.{_⊎_, inl, inr, ⊎-elim}
 use mathlib.Core.Path.{_≡_, refl, sym}
@@ -83,7 +83,7 @@ module _ (year month day : ℕ) where
       (days-fail 31 (omega arith) (λ o. inl (inr o))
       (λ w. absurd (thirty .no e (w .0))) (λ w. absurd (february .no f (w .0))) (λ w. absurd (february .no f (w .0)))))))
 
--- a test, and the others where it passes
+-- a test, and the next where it passes
 fails-then : {a b : Bool} {P Q : Type 0} → Fails a P → (a ≡ true → Fails b Q) → Fails (a && b) (P ⊎ Q)
 fails-then {a = true} f g = fails-and f (g refl)
 fails-then {a = false} f g = record { bad = λ e. inl (f .bad refl); good = λ e. never e }
@@ -116,15 +116,9 @@ prescale-fails order multiplier offset =
     (fails-as (λ w. inl (some, w)) (⊎-elim (λ h. h .1) (λ h. absurd (some (h .0))))
     (fails-and (fails-outside 1 (2 ^ 30) multiplier) (fails-le offset 6553600000))))
 
--- a prescale's two tests, then the others
-prescale-then : (order multiplier offset : ℕ) {c : Bool} {Q : Type 0} → Fails c Q
-    → Fails (multiplierRight order multiplier && (offsetRight order offset && c)) (PrescaleWrong order multiplier offset ⊎ Q)
-prescale-then order multiplier offset {c} {Q} g = by (multiplierRight order multiplier) (prescale-fails order multiplier offset)
-  where
-    by : (a : Bool) → Fails (a && offsetRight order offset) (PrescaleWrong order multiplier offset)
-        → Fails (a && (offsetRight order offset && c)) (PrescaleWrong order multiplier offset ⊎ Q)
-    by true f = fails-and f g
-    by false f = record { bad = λ e. inl (f .bad refl); good = λ e. never e }
+-- two tests of one condition, and the next
+fails-two : (a b : Bool) {c : Bool} {P Q : Type 0} → Fails (a && b) P → Fails c Q → Fails (a && (b && c)) (P ⊎ Q)
+fails-two a b {c} f g = rw (← and-assoc a b c) (fails-and f g)
 
 coefficients-fail : (body : List ℕ) (left i : ℕ)
     → Fails (all (coefficientFields body left i)) ((j : ℕ) × (i ≤ j) × (j < i + left) × Beyond (2 ^ 34) (coefficientAt body j))
@@ -143,6 +137,10 @@ unfolding setFields
 set-judges number body =
     let np = numberAt 1 body 2 in
     let nt = numberAt 1 body 3 in
+    let mp = numberAt 4 body 4 in
+    let fp = numberAt 8 body 8 in
+    let mt = numberAt 4 body 16 in
+    let ft = numberAt 8 body 20 in
     let count = (np + 1) * (nt + 1) in
     rw (number-same, signed-same)
     (fields-judge number (setFields body)
@@ -151,8 +149,8 @@ set-judges number body =
     (fails-and (fails-le np 4)
     (fails-and (fails-le nt 4)
     (fails-and (fails-eq (length body) (28 + 8 * count))
-    (prescale-then np (numberAt 4 body 4) (numberAt 8 body 8)
-    (prescale-then nt (numberAt 4 body 16) (numberAt 8 body 20)
+    (fails-two (multiplierRight np mp) (offsetRight np fp) (prescale-fails np mp fp)
+    (fails-two (multiplierRight nt mt) (offsetRight nt ft) (prescale-fails nt mt ft)
     (fails-as (λ h. (h .0, omega (arith, h .2), h .3)) (λ h. (h .0, omega arith, omega (arith, h .1), h .2)) (coefficients-fail body count 0))))))))))
 
 -- ---- 4, trim

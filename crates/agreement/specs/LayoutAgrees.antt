@@ -1,5 +1,5 @@
 -- The layout's verdict is document 01's: the first of 5 to 8 that is given.
-use mathlib.Core.Bool.{Bool, true, false}
+use mathlib.Core.Bool.{Bool, true, false, and-assoc}
 use mathlib.Core.List.{List, [], _∷_}
 use mathlib.Core.Logic.{inl, inr, ⊎-elim, _↔_}
 use mathlib.Core.Path.{_≡_, refl}
@@ -59,13 +59,10 @@ module _ (image : List ℕ) where
 
   line-fails : (i : ℕ) → i < lineCount image → Fails (lineRight image i (kindBefore image i) (endBefore image i)) (BreaksLayout image i)
   line-fails i h =
-      rw (← number-same)
-      (fails-as
-      (λ w. inl (h, ⊎-elim (⊎-elim inl (λ q. inr (inl q))) (λ r. inr (inr r)) w))
-      (⊎-elim (λ b. ⊎-elim (λ p. inl (inl p)) (⊎-elim (λ q. inl (inr q)) inr) (b .1)) (λ b. absurd (omega (arith, b .0))))
-      (fails-and
-      (fails-and (fails-lt (kindBefore image i) (kindOf image i)) (fails-eq (zeroByteOf image i) 0))
-      (fails-eq (offsetOf image i) (endBefore image i))))
+      rw (← number-same, and-assoc)
+      (fails-as (λ w. inl (h, w)) (⊎-elim (λ b. b .1) (λ b. absurd (omega (arith, b .0))))
+      (fails-and (fails-lt (kindBefore image i) (kindOf image i))
+      (fails-and (fails-eq (zeroByteOf image i) 0) (fails-eq (offsetOf image i) (endBefore image i)))))
 
   lines-judge : (left i : ℕ) → i + left ≡ lineCount image → NoneBelow (BreaksLayout image) i
       → Judges (lowest 7 (BreaksLayout image)) (linesVerdict image left i (kindBefore image i) (endBefore image i))
