@@ -29,6 +29,7 @@ use Rattle.builder.specs.GivenLaws.{given-counted, given-line, given-again}
 use Rattle.builder.specs.Built.{kept-to, built-good, built-sections, built-bytes, good-built}
 use Rattle.agreement.specs.TableLaws.{filling-refused-exactly, filled-exactly}
 use Rattle.agreement.specs.FieldsAgree.{number-same}
+use Rattle.agreement.specs.LayoutAgrees.{layout-accepted-exactly}
 use Rattle.agreement.specs.BuilderTableLaws.{builder-gives, builder-single}
 
 -- ---- refused
@@ -101,51 +102,47 @@ module _ (kinds lengths bodies image : List ℕ) (even : length kinds ≡ length
   bodies-same : IsImageOf kinds lengths bodies image → bodiesOf (sections image) ≡ bodies
   bodies-same is = let count : lineCount image ≡ length kinds = rw number-same at (is .count) in sym bodies-are ∙ rw count (is .joined)
 
-module _ (size : ℕ) (kinds lengths bodies image : List ℕ)
-    (layout-exactly : (image : List ℕ) → (layoutVerdict image ≡ Accepted) ↔ NoneGiven (layoutTable image))
-  where
-    even-of : NoneGiven (builderTable size kinds lengths bodies) → length kinds ≡ length lengths
-    even-of none =
-        decide (eqb (length kinds) (length lengths)) (eqb-true (length kinds) (length lengths))
-        (λ f. absurd (none .0 0 (refl, inl (eqb-false (length kinds) (length lengths) f))))
+module _ (size : ℕ) (kinds lengths bodies image : List ℕ) where
+  even-of : NoneGiven (builderTable size kinds lengths bodies) → length kinds ≡ length lengths
+  even-of none =
+      decide (eqb (length kinds) (length lengths)) (eqb-true (length kinds) (length lengths))
+      (λ f. absurd (none .0 0 (refl, inl (eqb-false (length kinds) (length lengths) f))))
 
-    image-made : Bytes bodies → NoneGiven (builderTable size kinds lengths bodies) → buildImage size (linesGiven kinds lengths) bodies ≡ result image
-        → IsImageOf kinds lengths bodies image
-    image-made b none made =
-        let given = linesGiven kinds lengths in
-        let good = built-good size given bodies image made in
-        let whole = kept-to size given bodies image made .whole in
-        let same = built-sections size given bodies image made in
-        is-image kinds lengths bodies image (even-of none) (built-bytes size given bodies image made b) good (layout-exactly image .0 good)
-        (rw same (lines-again given bodies whole))
-        (rw same (bodies-whole given bodies whole))
+  image-made : Bytes bodies → NoneGiven (builderTable size kinds lengths bodies) → buildImage size (linesGiven kinds lengths) bodies ≡ result image
+      → IsImageOf kinds lengths bodies image
+  image-made b none made =
+      let given = linesGiven kinds lengths in
+      let good = built-good size given bodies image made in
+      let whole = kept-to size given bodies image made .whole in
+      let same = built-sections size given bodies image made in
+      is-image kinds lengths bodies image (even-of none) (built-bytes size given bodies image made b) good (layout-accepted-exactly image .0 good)
+      (rw same (lines-again given bodies whole))
+      (rw same (bodies-whole given bodies whole))
 
-    made-so : NoneGiven (builderTable size kinds lengths bodies) → IsImageOf kinds lengths bodies image
-        → buildImage size (linesGiven kinds lengths) bodies ≡ result image
-    made-so none is =
-        let even = even-of none in
-        let good = layout-exactly image .1 (is .good) in
-        let long = length-drop (2 + 8 * length kinds) image in
-        let joined = ap length (is .joined) in
-        let room : length image ≤ size = split (length image) size (λ h. h) (λ h. absurd (none .1 .1 .0 0 (refl, omega arith))) in
-        rw (lines-same kinds lengths bodies image even (is .bytes) good is, bodies-same kinds lengths bodies image even (is .bytes) good is) at
-        (good-built size image (is .bytes) good room)
+  made-so : NoneGiven (builderTable size kinds lengths bodies) → IsImageOf kinds lengths bodies image
+      → buildImage size (linesGiven kinds lengths) bodies ≡ result image
+  made-so none is =
+      let even = even-of none in
+      let good = layout-accepted-exactly image .1 (is .good) in
+      let long = length-drop (2 + 8 * length kinds) image in
+      let joined = ap length (is .joined) in
+      let room : length image ≤ size = split (length image) size (λ h. h) (λ h. absurd (none .1 .1 .0 0 (refl, omega arith))) in
+      rw (lines-same kinds lengths bodies image even (is .bytes) good is, bodies-same kinds lengths bodies image even (is .bytes) good is) at
+      (good-built size image (is .bytes) good room)
 
-    pub built-exactly : Bytes bodies
-        → (buildImage size (linesGiven kinds lengths) bodies ≡ result image) ↔ (
-        NoneGiven (builderTable size kinds lengths bodies) × IsImageOf kinds lengths bodies image)
-    unfolding buildImage
-    built-exactly b =
-        let given = linesGiven kinds lengths in
-        let so =
-        filled-exactly (builderTable size kinds lengths bodies) (builder-single size kinds lengths bodies) (buildVerdict size given bodies)
-        (builder-gives size kinds lengths bodies) (imageOf (sectionsOf given bodies)) image in
-        (λ made. let none = so .0 made .0 in (none, image-made b none made), λ f. made-so (f .0) (f .1))
+  pub built-exactly : Bytes bodies
+      → (buildImage size (linesGiven kinds lengths) bodies ≡ result image) ↔ (
+      NoneGiven (builderTable size kinds lengths bodies) × IsImageOf kinds lengths bodies image)
+  unfolding buildImage
+  built-exactly b =
+      let given = linesGiven kinds lengths in
+      let so =
+      filled-exactly (builderTable size kinds lengths bodies) (builder-single size kinds lengths bodies) (buildVerdict size given bodies)
+      (builder-gives size kinds lengths bodies) (imageOf (sectionsOf given bodies)) image in
+      (λ made. let none = so .0 made .0 in (none, image-made b none made), λ f. made-so (f .0) (f .1))
 
-module _ (size : ℕ) (lines : List Line) (bodies image : List ℕ)
-    (layout-exactly : (image : List ℕ) → (layoutVerdict image ≡ Accepted) ↔ NoneGiven (layoutTable image))
-  where
-    pub lines-built-exactly : Bytes bodies
-        → (buildImage size lines bodies ≡ result image) ↔ (
-        NoneGiven (builderTable size (kindsOf lines) (lengthsOf lines) bodies) × IsImageOf (kindsOf lines) (lengthsOf lines) bodies image)
-    lines-built-exactly b = rw (given-again lines) at (built-exactly size (kindsOf lines) (lengthsOf lines) bodies image layout-exactly b)
+module _ (size : ℕ) (lines : List Line) (bodies image : List ℕ) where
+  pub lines-built-exactly : Bytes bodies
+      → (buildImage size lines bodies ≡ result image) ↔ (
+      NoneGiven (builderTable size (kindsOf lines) (lengthsOf lines) bodies) × IsImageOf (kindsOf lines) (lengthsOf lines) bodies image)
+  lines-built-exactly b = rw (given-again lines) at (built-exactly size (kindsOf lines) (lengthsOf lines) bodies image b)

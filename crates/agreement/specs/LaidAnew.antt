@@ -12,10 +12,11 @@ use Rattle.image.specs.Layout.{layoutVerdict}
 use Rattle.image.specs.Sections.{sections}
 use Rattle.image.specs.Find.{bodyOf}
 use Rattle.image.specs.Back.{same-bodies-same-image}
+use Rattle.agreement.specs.LayoutAgrees.{layout-accepted-exactly}
 use Rattle.agreement.specs.KindsAgree.{found-is-had, had-is-found}
 
 -- a kind's body is found in both images or in neither
-found-same : (image image′ : List ℕ) (kind : ℕ) → layoutVerdict image ≡ Accepted → layoutVerdict image′ ≡ Accepted
+pub found-same : (image image′ : List ℕ) (kind : ℕ) → layoutVerdict image ≡ Accepted → layoutVerdict image′ ≡ Accepted
     → ((body : List ℕ) → HasBody image kind body ↔ HasBody image′ kind body) → bodyOf kind (sections image) ≡ bodyOf kind (sections image′)
 found-same image image′ kind good good′ same = by (bodyOf kind (sections image)) (bodyOf kind (sections image′)) refl refl
   where
@@ -30,12 +31,10 @@ found-same image image′ kind good good′ same = by (bodyOf kind (sections ima
     by none none e e′ = refl
     by none (some body) e e′ = cc (back body e′)
 
-module _ (image image′ : List ℕ)
-    (layout-exactly : (image : List ℕ) → (layoutVerdict image ≡ Accepted) ↔ NoneGiven (layoutTable image))
-  where
-    pub laid-once : Bytes image → Bytes image′ → NoneGiven (layoutTable image) → NoneGiven (layoutTable image′)
-        → ((kind : ℕ) (body : List ℕ) → HasBody image kind body ↔ HasBody image′ kind body) → image ≡ image′
-    laid-once b b′ laid laid′ same =
-        let good = layout-exactly image .1 laid in
-        let good′ = layout-exactly image′ .1 laid′ in
-        same-bodies-same-image image image′ b b′ good good′ (λ kind. found-same image image′ kind good good′ (same kind))
+module _ (image image′ : List ℕ) where
+  pub laid-once : Bytes image → Bytes image′ → NoneGiven (layoutTable image) → NoneGiven (layoutTable image′)
+      → ((kind : ℕ) (body : List ℕ) → HasBody image kind body ↔ HasBody image′ kind body) → image ≡ image′
+  laid-once b b′ laid laid′ same =
+      let good = layout-accepted-exactly image .1 laid in
+      let good′ = layout-accepted-exactly image′ .1 laid′ in
+      same-bodies-same-image image image′ b b′ good good′ (λ kind. found-same image image′ kind good good′ (same kind))

@@ -18,3 +18,4 @@ pub mod ChainLaws
 pub mod SetAgrees
 pub mod ShownAgrees
 pub mod ReadingAgrees
+pub mod ManualAgrees

@@ -51,10 +51,10 @@ grid-chain kind xp xt body (suc left) r =
 -- ---- the grid of a right body
 
 module _ (body : List ℕ) (right : Not (SetWrong body)) where
-  few-rows : pressureOrder body ≤ 4
+  pub few-rows : pressureOrder body ≤ 4
   few-rows = split (pressureOrder body) 4 (λ h. h) (λ h. absurd (right (inr (inr (inl h)))))
 
-  few-places : temperatureOrder body ≤ 4
+  pub few-places : temperatureOrder body ≤ 4
   few-places = split (temperatureOrder body) 4 (λ h. h) (λ h. absurd (right (inr (inr (inr (inl h))))))
 
   long : length body ≡ 28 + 8 * coefficientCount body

@@ -217,7 +217,7 @@ module _ (level : ℕ) (image : List ℕ) where
 -- ---- what an acceptance says of the bodies that a reading takes
 
 -- where no number is the lowest with a property, none has it
-none-without-lowest : (P : ℕ → Type 0) → ((k : ℕ) → Not (Lowest P k)) → (i : ℕ) → NoneBelow P i
+pub none-without-lowest : (P : ℕ → Type 0) → ((k : ℕ) → Not (Lowest P k)) → (i : ℕ) → NoneBelow P i
 none-without-lowest P n zero = λ j h. absurd (omega arith)
 none-without-lowest P n (suc i) = let below = none-without-lowest P n i in none-next P i below (λ p. n i (p, below))
 

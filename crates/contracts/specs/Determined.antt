@@ -21,7 +21,7 @@ use Rattle.bjorkneve.proofs as bjorkneve
 use Rattle.display.proofs as display
 use Rattle.contracts.specs.Contract.{Alike, Determines, SamePart}
 use Rattle.contracts.specs.ContractLaws.{determined, answers, is-part, is-found, fills, told-fills, first, next}
-use Rattle.contracts.specs.BuildReads as build
+use Rattle.calls.specs.BuildReads as build
 
 -- whole
 pub magnitude-determined : Determines whole.magnitude.ended whole.magnitude.Reads.Learnt

@@ -18,7 +18,7 @@ use Rattle.panel.proofs as panel
 use Rattle.bjorkneve.proofs as bjorkneve
 use Rattle.display.proofs as display
 use Rattle.contracts.specs.Contract.{AsksNothing}
-use Rattle.contracts.specs.BuildReads as build
+use Rattle.calls.specs.BuildReads as build
 
 -- whole
 pub magnitude-free : AsksNothing whole.magnitude.ended whole.magnitude.Reads.requires

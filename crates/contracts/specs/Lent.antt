@@ -5,9 +5,9 @@ use Prim.Native.Nat.{ℕ, _^_, _<_}
 use lib.ListN.{length}
 use denote.Ref.{now}
 use Rattle.laws.specs.Bytes.{Bytes}
-use Rattle.lent.specs.Call.{Call, shared, next}
-use Rattle.lent.specs.CallLaws.{lent-bytes}
-use Rattle.lent.specs.LendLaws.{lendable}
+use Rattle.calls.specs.Call.{Call, shared, next}
+use Rattle.calls.specs.CallLaws.{lent-bytes}
+use Rattle.calls.specs.LendLaws.{lendable}
 use Rattle.hexread.proofs as hexread
 use Rattle.hexwrite.proofs as hexwrite
 use Rattle.layout.proofs as layout

@@ -1,5 +1,4 @@
 pub mod Contract
-pub mod BuildReads
 pub mod ContractLaws
 pub mod Determined
 pub mod Free

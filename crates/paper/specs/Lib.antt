@@ -7,4 +7,5 @@ pub mod Bodies
 pub mod Verdict
 pub mod Builder
 pub mod Reading
+pub mod Manual
 pub mod ReadingTable

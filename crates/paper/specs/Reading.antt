@@ -102,7 +102,8 @@ module _ (image : List ℕ) (pressure shown : ℤ) (unit : ℕ) where
 
 -- ---- what is shown
 
-pub record Shows (image : List ℕ) (counts : Counts) (shownPressure shownTemperature : ℤ) (unit mark : ℕ) : Type 0 where
+-- each set's result being as `IsResult` says
+pub record ShowsBy (IsResult : (body : List ℕ) → (fp ft z : ℤ) → Type 0) (image : List ℕ) (counts : Counts) (shownPressure shownTemperature : ℤ) (unit mark : ℕ) : Type 0 where
   pub identity : List ℕ
   pub pressureSet : List ℕ
   pub temperatureSet : List ℕ
@@ -114,7 +115,10 @@ pub record Shows (image : List ℕ) (counts : Counts) (shownPressure shownTemper
   pub fp-is : Frequency (counts .pressureNS) (counts .pressureNR) fp
   pub ft-is : Frequency (counts .temperatureNS) (counts .temperatureNR) ft
   pub pressure : ℤ
-  pub pressure-is : Result pressureSet fp ft pressure
-  pub temperature-is : Result temperatureSet fp ft shownTemperature
+  pub pressure-is : IsResult pressureSet fp ft pressure
+  pub temperature-is : IsResult temperatureSet fp ft shownTemperature
   pub mark-is : Mark identity pressure shownTemperature mark
   pub trim-is : Untrimmed image pressure shownPressure unit ⊎ Trimmed image pressure shownPressure unit
+
+abbrev pub Shows : (image : List ℕ) → Counts → (shownPressure shownTemperature : ℤ) → (unit mark : ℕ) → Type 0
+Shows = ShowsBy (λ body fp ft z. Result body fp ft z)

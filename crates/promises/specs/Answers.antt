@@ -1,18 +1,16 @@
 -- What a call answers, in document 01's numbers and words.
 use mathlib.Core.Bool.{Bool, true, false}
-use mathlib.Core.List.{List, _++_}
+use mathlib.Core.List.{List, [], _++_}
 use mathlib.Core.Logic.{_⊎_}
 use mathlib.Core.Path.{_≡_}
-use Prim.Native.Nat.{ℕ, _-_, _≤_, min}
+use Prim.Native.Nat.{ℕ, _+_, _-_, _≤_, min}
 use lib.IntN.{ℤ, pos}
 use lib.ListN.{length, replicate}
-use contract.Lifetimes.{Lfts}
-use denote.Triple.Clauses.{Ended, Lasts, AtExit, atExit}
-use denote.Triple.Entry.{Args, Res}
+use denote.Ref.{RefT, now, ptr}
 use Rattle.paper.specs.Words.{Not}
-use Rattle.paper.specs.Table.{Row, NoneGiven, FirstGiven, Tells}
+use Rattle.paper.specs.Table.{NoneGiven, FirstGiven}
 use Rattle.paper.specs.Writer.{writerTable}
-use Rattle.paper.specs.Image.{offsetOf, lengthOf, HasKind, layoutTable}
+use Rattle.paper.specs.Image.{offsetOf, HasKind, HasBody, layoutTable}
 use Rattle.paper.specs.Verdict.{verdictTable}
 use Rattle.paper.specs.Builder.{builderTable, IsImageOf}
 use Rattle.paper.specs.Reading.{Counts, Shows}
@@ -20,18 +18,6 @@ use Rattle.paper.specs.ReadingTable.{readingTable}
 use Rattle.hexformat.specs.Format.{GoodText}
 use Rattle.hexformat.specs.Faults.{Refuses}
 use Rattle.hexformat.specs.Writing.{Written}
-use Rattle.lent.specs.Call.{Call}
-
--- ---- every call
-
--- Of every call of a function there is, by its own contract: `learnt` is what its `ensures` tells a caller, r is the answer, and b
--- has what each lent buffer holds afterwards.
-module _ (T : Ended) where
-  abbrev pub EveryCall : (learnt : (κs : Lfts (T .signature .lifetimes)) → Args (T .signature) κs → Res (T .signature) κs → AtExit T κs → Type 0)
-      → (says : (call : Call (T .signature)) → Res (T .signature) (call .lifetimes) → Lasts T (call .lifetimes) (call .arguments) → Type 0) → Type 2
-  EveryCall learnt says =
-      (call : Call (T .signature)) (r : Res (T .signature) (call .lifetimes)) (b : Lasts T (call .lifetimes) (call .arguments))
-      → learnt (call .lifetimes) (call .arguments) r (atExit T (call .lifetimes) (call .arguments) b) → says call r b
 
 -- ---- a lent buffer
 
@@ -72,15 +58,22 @@ AnswersLoad level text before = Fills (LoadRefused level text before) (Loaded le
 
 -- ---- no lent buffer
 
--- a kind found: yes and its body's place, or no and the empty part at the image's start
+-- a kind found: yes and where its body stands, or no and the empty part at the image's start
 pub data AnswersFind (image : List ℕ) (kind : ℕ) (there : Bool) (offset size : ℕ) : Type 0 where
-  found : there ≡ true → NoneGiven (layoutTable image) → (h : HasKind image kind) → offset ≡ offsetOf image (h .line) → size ≡ lengthOf image (h .line)
-      → AnswersFind image kind there offset size
+  found : there ≡ true → NoneGiven (layoutTable image) → (body : List ℕ) → HasBody image kind body → (h : HasKind image kind) → offset ≡ offsetOf image (h .line)
+      → size ≡ length body → AnswersFind image kind there offset size
   absent : there ≡ false → Not (NoneGiven (layoutTable image) × HasKind image kind) → offset ≡ 0 → size ≡ 0 → AnswersFind image kind there offset size
+
+-- the body itself, as a part of the caller's image, or the empty part at the image's start
+pub data FindsPart (image r : RefT (List ℕ)) (kind : ℕ) : Type 0 where
+  foundPart : NoneGiven (layoutTable (now image)) → HasBody (now image) kind (now r) → (h : HasKind (now image) kind) → ptr r .0 ≡ ptr image .0
+      → ptr r .1 ≡ ptr image .1 + offsetOf (now image) (h .line) → FindsPart image r kind
+  absentPart : Not (NoneGiven (layoutTable (now image)) × HasKind (now image) kind) → now r ≡ [] → ptr r .0 ≡ ptr image .0 → ptr r .1 ≡ ptr image .1
+      → FindsPart image r kind
 
 -- a reading: number 0 exactly where it is shown, and with any other number every value is 0
 pub data AnswersReading (level : ℕ) (image : List ℕ) (counts : Counts) (number detail : ℕ) (pressure temperature : ℤ) (unit mark : ℕ) : Type 0 where
-  refused : 1 ≤ number → FirstGiven (readingTable level image counts) number detail → pressure ≡ pos 0 → temperature ≡ pos 0 → unit ≡ 0 → mark ≡ 0
+  notShown : 1 ≤ number → FirstGiven (readingTable level image counts) number detail → pressure ≡ pos 0 → temperature ≡ pos 0 → unit ≡ 0 → mark ≡ 0
       → AnswersReading level image counts number detail pressure temperature unit mark
   shown : number ≡ 0 → detail ≡ 0 → NoneGiven (readingTable level image counts) → Shows image counts pressure temperature unit mark
       → AnswersReading level image counts number detail pressure temperature unit mark

@@ -1,43 +1,58 @@
--- The second demand: what is right is read, what is written or built reads back, damage is found. A theorem that is proved elsewhere stands
--- here again, so that the demand is read in one place.
-use mathlib.Core.Path.{_≡_}
+-- The second demand: reader, writer, image reader, builder and reading agree with document 01; what is written reads back; damage is found.
+-- Each theorem goes both ways. What stands to the right of ↔ is document 01 as a relation (crates paper and hexformat), which cites
+-- none of the definitions that the code is proved by. A theorem that is proved elsewhere stands here again, so that the demand is read in
+-- one place.
 use mathlib.Core.List.{List, _∷_, _++_}
-use mathlib.Core.Logic.{_↔_}
-use mathlib.Core.Option.{some}
-use Prim.Native.Nat.{ℕ, _-_, _≤_, _<_, min}
-use lib.ListN.{length, take, getD, replicate}
-use Rattle.laws.specs.Bytes.{Bytes}
-use Rattle.refusals.specs.declared.Verdict.the-variants.{Accepted}
+use mathlib.Core.Logic.{_⊎_, inl, inr, ⊎-elim, _↔_}
+use mathlib.Core.Option.{none, some}
+use mathlib.Core.Path.{_≡_}
+use Prim.Native.Nat.{ℕ, _-_, _≤_, min}
+use lib.ListN.{length, take, replicate}
+use denote.Ref.{now}
+use Rattle.paper.specs.Words.{Not}
+use Rattle.paper.specs.Table.{NoneGiven, FirstGiven}
+use Rattle.paper.specs.Writer.{writerTable}
+use Rattle.paper.specs.Image.{offsetOf, HasKind, HasBody, layoutTable}
+use Rattle.paper.specs.Verdict.{verdictTable}
+use Rattle.paper.specs.Builder.{builderTable, IsImageOf}
+use Rattle.paper.specs.ReadingTable.{readingTable}
+use Rattle.paper.specs.Manual.{ShowsByManual}
+use Rattle.refusals.specs.declared.Verdict.the-variants.{Accepted, Refused as NotAccepted}
 use Rattle.refusals.specs.declared.Filled.{Filled}
 use Rattle.refusals.specs.declared.Filled.the-variants.{Length}
 use Rattle.refusals.specs.Refusals.{result, refused, refusal, Fills}
+use Rattle.calls.specs.Call.{Call, shared, next}
+use Rattle.calls.specs.CallLaws.{lent-bytes}
 use Rattle.hextext.specs.Text.{readText}
-use Rattle.hextext.specs.Written.{textOf, textLength, writeImage}
+use Rattle.hextext.specs.Written.{textOf, writeImage}
 use Rattle.hexformat.specs.Format.{Digit, GoodText}
 use Rattle.hexformat.specs.Faults.{Refuses}
+use Rattle.hexformat.specs.Writing.{Written}
 use Rattle.hexformat.specs.Damage.{IsRefused}
 use Rattle.hexformat.specs.Agrees.{read-exactly, refused-exactly, one-fault}
-use Rattle.hexformat.specs.RoundTrip.{is-written, written-is-good, written-reads-back, there-and-back}
+use Rattle.hexformat.specs.RoundTrip.{written-is-good, written-reads-back, there-and-back}
 use Rattle.hexformat.specs.Damaged.{digit-changed}
 use Rattle.image.specs.Layout.{layoutVerdict}
-use Rattle.image.specs.Sections.{sections, bodiesOf}
-use Rattle.image.specs.Find.{bodyOf, found}
-use Rattle.builder.specs.declared.Line.{Line}
-use Rattle.builder.specs.Build.{sectionsOf, buildImage, Built}
-use Rattle.builder.specs.Lines.{linesOf, noLine, bodyGiven}
-use Rattle.builder.specs.Built.{built-exactly, built-found, built-found-line, good-built}
-use Rattle.bodies.specs.Identity.{identityOf}
-use Rattle.sets.specs.Set.{setOf, gridOf}
+use Rattle.image.specs.Find.{found, foundOffset}
+use Rattle.builder.specs.Build.{buildImage}
+use Rattle.builder.specs.Lines.{linesGiven}
 use Rattle.reading.specs.declared.Counts.{Counts}
 use Rattle.reading.specs.declared.Reading.{Reading}
-use Rattle.reading.specs.declared.Answer.the-variants.{Shown}
-use Rattle.reading.specs.Measured.{measuredOf}
+use Rattle.reading.specs.declared.Answer.the-variants.{Shown, Refused}
 use Rattle.panel.specs.Verdict.{verdictOf}
-use Rattle.panel.specs.Reading.{bodyIn, trimmingOf, sectionsReading, readingOf}
-use Rattle.promises.specs.Manual.{ReadByManual}
-use Rattle.promises.specs.ManualLaws.{sections-by-manual, shown-after}
+use Rattle.panel.specs.Reading.{readingOf}
+use Rattle.panel.specs.Load.{loadText}
+use Rattle.hexwrite.proofs as hexwrite
+use Rattle.builder.proofs as builder
+use Rattle.agreement.specs.WriterAgrees.{write-refused-exactly, written-exactly}
+use Rattle.agreement.specs.LayoutAgrees.{layout-refused-exactly, layout-accepted-exactly}
+use Rattle.agreement.specs.FinderAgrees.{found-exactly, absent-exactly, offset-exactly}
+use Rattle.agreement.specs.BuilderAgrees.{build-refused-exactly, built-exactly}
+use Rattle.agreement.specs.VerdictAgrees.{verdict-refused-exactly, verdict-accepted-exactly}
+use Rattle.agreement.specs.ReadingAgrees.{onPaper, ShowsReading, reading-refused-exactly, reading-shown-exactly}
+use Rattle.agreement.specs.ManualAgrees.{shows-by-manual}
 
--- ---- texts
+-- ---- the HEX reader
 
 -- A text is read, and as which image, exactly where Intel's format says that it is a good text of that image, and the image has room.
 pub text-read-exactly : (size : ℕ) (text image : List ℕ) → (readText size text ≡ result image) ↔ (GoodText image text × (length image ≤ min 4096 size))
@@ -53,67 +68,102 @@ pub text-one-fault : (room : ℕ) (text : List ℕ) (number line number′ line�
     → (number ≡ number′) × (line ≡ line′)
 text-one-fault = one-fault
 
--- An image of 4,096 bytes or less is written wherever its text has room.
-pub image-is-written : (size : ℕ) (image : List ℕ) → length image ≤ 4096 → textLength (length image) ≤ size → writeImage size image ≡ result (textOf image)
-image-is-written = is-written
-
--- What is written of an image is a good text of it.
-pub written-text-is-good : (image : List ℕ) → Bytes image → length image ≤ 4096 → GoodText image (textOf image)
-written-text-is-good = written-is-good
-
--- What is written of an image reads back as the same image.
-pub written-text-reads-back : (image : List ℕ) → Bytes image → (size : ℕ) → length image ≤ 4096 → length image ≤ size → readText size (textOf image) ≡ result image
-written-text-reads-back = written-reads-back
-
--- Whatever writing and then reading may answer by their contracts, the same image comes back.
-pub image-there-and-back : (image text text′ buffer buffer′ : List ℕ) (n : ℕ) (answer : Filled) → Bytes image
-    → Fills (writeImage (length text) image) text (Length n) text′
-    → Fills (readText (length buffer) (take n text′)) buffer answer buffer′
-    → length image ≤ length buffer
-    → (answer ≡ Length (length image)) × (buffer′ ≡ image ++ replicate (length buffer - length image) 0)
-image-there-and-back = there-and-back
-
 -- A good text in which one digit has another value is refused.
 pub changed-digit-refused : (size : ℕ) (image before rest : List ℕ) (one other value changed : ℕ) → GoodText image (before ++ one ∷ rest)
-    → Digit one value → Digit other changed → (value ≡ changed → ⊥) → IsRefused (readText size (before ++ other ∷ rest))
+    → Digit one value → Digit other changed → Not (value ≡ changed) → IsRefused (readText size (before ++ other ∷ rest))
 changed-digit-refused = digit-changed
 
--- ---- images
+-- ---- the HEX writer
 
--- The builder's images are exactly those with a good layout.
-pub images-built-exactly : (image : List ℕ) → Built image ↔ (Bytes image × (layoutVerdict image ≡ Accepted))
-images-built-exactly = built-exactly
+-- An image is refused by 4 or 17 exactly where its row says so.
+pub image-write-refused-exactly : (size : ℕ) (image : List ℕ) (number detail : ℕ)
+    → (writeImage size image ≡ refused (refusal number detail)) ↔ FirstGiven (writerTable size image) number detail
+image-write-refused-exactly = write-refused-exactly
 
--- Each image with a good layout is built, byte for byte, from its own contents lines and bodies.
-pub good-image-built : (size : ℕ) (image : List ℕ) → Bytes image → layoutVerdict image ≡ Accepted → length image ≤ size
-    → buildImage size (linesOf (sections image)) (bodiesOf (sections image)) ≡ result image
-good-image-built = good-built
+-- in every call of the writer
+module _ (call : Call hexwrite.write.signature) where
+  abbrev image : List ℕ
+  image = now (call .arguments .0)
 
--- In an image that was built, a kind has the body that was given under it, and none where none was given.
-pub built-image-found : (size : ℕ) (lines : List Line) (bodies image : List ℕ) → buildImage size lines bodies ≡ result image
-    → (kind : ℕ) → found image kind ≡ bodyOf kind (sectionsOf lines bodies)
-built-image-found = built-found
+  -- A text is written, and which, exactly where no row is given and it is the text that document 01 says.
+  pub image-written-exactly : (size : ℕ) (text : List ℕ) → (writeImage size image ≡ result text) ↔ (NoneGiven (writerTable size image) × Written image text)
+  image-written-exactly size text = written-exactly size image text (lent-bytes call (shared 0 tt))
 
--- So each line's kind has the body that its length cuts out of the bodies.
-pub built-line-found : (size : ℕ) (lines : List Line) (bodies image : List ℕ) → buildImage size lines bodies ≡ result image
-    → (i : ℕ) → i < length lines → found image (getD lines i noLine .kind) ≡ some (bodyGiven lines bodies i)
-built-line-found = built-found-line
+  -- What is written is a good text of the image,
+  pub written-text-is-good : length image ≤ 4096 → GoodText image (textOf image)
+  written-text-is-good = written-is-good image (lent-bytes call (shared 0 tt))
 
--- ---- readings
+  -- and reads back the same,
+  pub written-text-reads-back : (size : ℕ) → length image ≤ 4096 → length image ≤ size → readText size (textOf image) ≡ result image
+  written-text-reads-back = written-reads-back image (lent-bytes call (shared 0 tt))
 
--- What a panel shows for an accepted image is worked out from the counts and from the image's own bodies.
-pub accepted-reading : (level : ℕ) (image : List ℕ) (counts : Counts) → verdictOf level image ≡ Accepted
-    → readingOf level image counts ≡ measuredOf counts
-    (identityOf (bodyIn 1 (sections image)))
-    (setOf (bodyIn 2 (sections image))) (gridOf (bodyIn 2 (sections image)))
-    (setOf (bodyIn 3 (sections image))) (gridOf (bodyIn 3 (sections image)))
-    (trimmingOf (bodyOf 4 (sections image)))
-unfolding readingOf sectionsReading
-accepted-reading level image counts e = rw e
+  -- whatever writing and then reading may answer by their contracts.
+  pub image-there-and-back : (text text′ buffer buffer′ : List ℕ) (n : ℕ) (answer : Filled)
+      → Fills (writeImage (length text) image) text (Length n) text′
+      → Fills (readText (length buffer) (take n text′)) buffer answer buffer′
+      → length image ≤ length buffer
+      → (answer ≡ Length (length image)) × (buffer′ ≡ image ++ replicate (length buffer - length image) 0)
+  image-there-and-back text text′ buffer buffer′ n answer = there-and-back image text text′ buffer buffer′ n answer (lent-bytes call (shared 0 tt))
 
--- What a panel shows is the nested polynomial of the maker's manual, of the coefficients in the image at the counts' frequencies, rounded at the places that document 01 names.
+-- ---- the image reader
+
+-- A layout is refused by 5 to 8, with their details, exactly where that is the first row given, and good exactly where none is.
+pub layout-refused-by : (image : List ℕ) (number detail : ℕ)
+    → (layoutVerdict image ≡ NotAccepted (refusal number detail)) ↔ FirstGiven (layoutTable image) number detail
+layout-refused-by = layout-refused-exactly
+
+pub layout-good : (image : List ℕ) → (layoutVerdict image ≡ Accepted) ↔ NoneGiven (layoutTable image)
+layout-good = layout-accepted-exactly
+
+-- A kind's body is found exactly where the layout is good and the image has it, at the offset that its contents line states.
+pub body-found : (image : List ℕ) (kind : ℕ) (body : List ℕ) → (found image kind ≡ some body) ↔ (NoneGiven (layoutTable image) × HasBody image kind body)
+body-found = found-exactly
+
+pub body-absent : (image : List ℕ) (kind : ℕ) → (found image kind ≡ none) ↔ Not (NoneGiven (layoutTable image) × HasKind image kind)
+body-absent = absent-exactly
+
+pub body-offset : (image : List ℕ) (kind offset : ℕ)
+    → (foundOffset image kind ≡ some offset) ↔ (NoneGiven (layoutTable image) × ((h : HasKind image kind) × (offset ≡ offsetOf image (h .line))))
+body-offset = offset-exactly
+
+-- An image is refused at a level exactly by the first row given, and accepted exactly where none is.
+pub verdict-refused-by : (level : ℕ) (image : List ℕ) (number detail : ℕ)
+    → (verdictOf level image ≡ NotAccepted (refusal number detail)) ↔ FirstGiven (verdictTable level image) number detail
+verdict-refused-by = verdict-refused-exactly
+
+pub verdict-accepts : (level : ℕ) (image : List ℕ) → (verdictOf level image ≡ Accepted) ↔ NoneGiven (verdictTable level image)
+verdict-accepts = verdict-accepted-exactly
+
+-- ---- the builder
+
+-- Lines and bodies are refused by 18, 19 or 17 exactly by the first row given.
+pub build-refused-by : (size : ℕ) (kinds lengths bodies : List ℕ) (number detail : ℕ)
+    → (buildImage size (linesGiven kinds lengths) bodies ≡ refused (refusal number detail)) ↔ FirstGiven (builderTable size kinds lengths bodies) number detail
+build-refused-by = build-refused-exactly
+
+-- In every call of the builder, an image is built, and which, exactly where no row is given and it is the image of these lines and bodies:
+-- bytes with a good layout, with these kinds, lengths and bodies.
+pub image-built-exactly : (call : Call builder.build_from_numbers.signature) (size : ℕ) (image : List ℕ)
+    → (buildImage size (linesGiven (now (call .arguments .0)) (now (call .arguments .1 .0))) (now (call .arguments .1 .1 .0)) ≡ result image)
+    ↔ (NoneGiven (builderTable size (now (call .arguments .0)) (now (call .arguments .1 .0)) (now (call .arguments .1 .1 .0)))
+    × IsImageOf (now (call .arguments .0)) (now (call .arguments .1 .0)) (now (call .arguments .1 .1 .0)) image)
+image-built-exactly call size image =
+    built-exactly size (now (call .arguments .0)) (now (call .arguments .1 .0)) (now (call .arguments .1 .1 .0)) image
+    (lent-bytes call (next (next (shared 2 tt))))
+
+-- ---- the reading
+
+-- A reading is refused by a number with a detail exactly where that is the first row given,
+pub reading-refused-by : (level : ℕ) (image : List ℕ) (counts : Counts) (number detail : ℕ)
+    → (readingOf level image counts ≡ Refused (refusal number detail)) ↔ FirstGiven (readingTable level image (onPaper counts)) number detail
+reading-refused-by = reading-refused-exactly
+
+-- and shown exactly where none is and it is what document 01 works out: frequencies, X by each set's own prescale, the nested sums, mark and trim.
+pub reading-shown : (level : ℕ) (image : List ℕ) (counts : Counts) (reading : Reading)
+    → (readingOf level image counts ≡ Shown reading) ↔ (NoneGiven (readingTable level image (onPaper counts)) × ShowsReading image counts reading)
+reading-shown = reading-shown-exactly
+
+-- What is shown is the nested polynomial of the maker's manual, as it is printed, of the coefficients A0, A1, .. B0, .. in the image.
 pub reading-by-manual : (level : ℕ) (image : List ℕ) (counts : Counts) (reading : Reading) → readingOf level image counts ≡ Shown reading
-    → ReadByManual image counts reading
-unfolding readingOf
-reading-by-manual level image counts reading e =
-    sections-by-manual image counts reading (shown-after (verdictOf level image) (sectionsReading (sections image) counts) reading e)
+    → ShowsByManual image (onPaper counts) (reading .pressure) (reading .temperature) (reading .unit) (reading .mark)
+reading-by-manual = shows-by-manual

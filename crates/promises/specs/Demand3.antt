@@ -1,129 +1,89 @@
--- The third demand: panels in the field go on working when a later image holds more.
-use mathlib.Core.Bool.{true, false, cond}
-use mathlib.Core.List.{List, [], _∷_}
-use mathlib.Core.Logic.{_↔_, _⊎_}
+-- The third demand: an image with further sections, and the levels of panels.
+use mathlib.Core.Bool.{Bool, true, false}
+use mathlib.Core.List.{List}
+use mathlib.Core.Logic.{_⊎_, inl, inr, ⊎-elim, _↔_}
 use mathlib.Core.Path.{_≡_, refl, sym, ap, _∙_}
-use Prim.Native.Nat.{ℕ, _≤_}
+use Prim.Native.Nat.{ℕ, _≤_, _<_}
 use native.Mathlib.Omega.{arith}
-use borrow.Author.Tests.{ne-eqb}
-use lib.Dec.{eqb}
-use lib.ListN.{length}
-use Rattle.laws.specs.Cases.{decide, never}
+use lib.IntN.{pos}
+use Rattle.paper.specs.Words.{Not, Lowest}
+use Rattle.paper.specs.Table.{NoneGiven}
+use Rattle.paper.specs.Image.{HasKind, HasBody, layoutTable}
+use Rattle.paper.specs.Verdict.{IsLevel, Knows, UnknownLow, verdictTable}
+use Rattle.laws.specs.Cases.{decide}
 use Rattle.refusals.specs.declared.Verdict.{Verdict}
 use Rattle.refusals.specs.declared.Verdict.the-variants.{Accepted, Refused as NotAccepted}
-use Rattle.refusals.specs.Refusals.{refusal, result}
-use Rattle.image.specs.Sections.{Section, sections, bodiesOf, Fit}
-use Rattle.image.specs.RoundTrip.{image-length, image-good, sections-of-image}
-use Rattle.image.specs.Back.{sections-fit}
-use Rattle.image.specs.Find.{bodyOf, found}
-use Rattle.image.specs.FindLaws.{found-good, found-in-image}
-use Rattle.image.specs.OrderLaws.{rising-ascends, sections-ascend}
-use Rattle.builder.specs.Build.{buildImage}
-use Rattle.builder.specs.Lines.{linesOf}
-use Rattle.builder.specs.BuildLaws.{passes, lines-counted, lines-rise, lines-total, sections-again}
+use Rattle.refusals.specs.Refusals.{refusal}
+use Rattle.refusals.specs.Told.{verdictTold}
+use Rattle.image.specs.Sections.{Section, sections}
+use Rattle.image.specs.Find.{bodyOf, isThere}
 use Rattle.reading.specs.declared.Counts.{Counts}
 use Rattle.reading.specs.declared.Reading.{Reading}
+use Rattle.reading.specs.declared.Answer.{Answer}
 use Rattle.reading.specs.declared.Answer.the-variants.{Shown, Refused}
-use Rattle.panel.specs.Levels.{knows, mayPass}
-use Rattle.panel.specs.Verdict.{sectionsVerdict, verdictOf}
+use Rattle.reading.specs.Told.{answerTold}
+use Rattle.panel.specs.Verdict.{verdictOf}
 use Rattle.panel.specs.Reading.{sectionsReading, afterVerdict, readingOf}
-use Rattle.promises.specs.Further.{merged, laidAnew, holds, EachKind, LowestLow, Further}
-use Rattle.promises.specs.Lower.{Below, LowestUnknown, NoneUnknown}
-use Rattle.promises.specs.FurtherLaws.{lowest-or-none, merged-fit, body-merged, body-of-merged}
-use Rattle.promises.specs.PanelLaws.{passed, unknown-high, held-passes, unknown-named, none-or-lowest, lowest-new, known-stays, bodies-same, missing-same, reading-same}
-use Rattle.promises.specs.LevelsLaws.{lower-accepts, lower-names, one-below-two, only-trim}
+use Rattle.agreement.specs.KindsAgree.{there-passes}
+use Rattle.agreement.specs.LayoutAgrees.{layout-accepted-exactly}
+use Rattle.agreement.specs.LaidAnew.{found-same}
+use Rattle.agreement.specs.VerdictAgrees.{verdict-refused-exactly, verdict-accepted-exactly, Readable, accepted-readable}
+use Rattle.promises.specs.Further.{Among, Further, LaidAnew, AllHigh, LowestLow}
+use Rattle.promises.specs.Lower.{Below}
+use Rattle.promises.specs.AnewLaws.{anew-accepted, anew-names, high-or-lowest, none-unknown, still-accepted, names-unknown}
 
-module _ (level : ℕ) (image : List ℕ) (further : List Section) (f : Further level image further) where
-  abbrev all : List Section
-  all = merged (sections image) further
+-- ---- further sections
 
-  fit : Fit all
-  fit =
-      merged-fit (sections image) further (sections-fit image (f .bytes) (passed level image (f .accepted) .laid))
-      (f .kinds) (f .once) (f .not-held) (f .few) (f .room)
+module _ (level : ℕ) (image : List ℕ) (further : List Section) (anew : List ℕ) (f : Further level image further) (laid : LaidAnew image further anew) where
+  was-accepted : verdictOf level image ≡ Accepted
+  was-accepted = verdict-accepted-exactly level image .1 (f .accepted)
 
-  -- The image laid out anew is what the builder makes of all sections, old and new, in any buffer that it fits.
-  pub built-anew : (size : ℕ) → length (laidAnew image further) ≤ size → buildImage size (linesOf all) (bodiesOf all) ≡ result (laidAnew image further)
-  unfolding buildImage laidAnew
-  built-anew size room =
-      rw (
-        passes size (linesOf all) (bodiesOf all)
-            (record {
-              some = omega (arith, fit .some, lines-counted all);
-              few = omega (arith, fit .few, lines-counted all);
-              rise = lines-rise 0 all (fit .rising);
-              whole = lines-total all;
-              limit = omega (arith, fit .room, lines-counted all);
-              room = omega (arith, image-length all, lines-counted all);
-            }),
-        sections-again all,
-      )
+  module _ (high : AllHigh further) where
+    -- If all the new kinds are 128 or above, the verdict is the same as before
+    pub high-verdict : verdictOf level anew ≡ verdictOf level image
+    high-verdict = verdict-accepted-exactly level anew .1 (anew-accepted level image further anew f laid high) ∙ sym was-accepted
 
-  -- In it each new kind has its body, and every other kind has the body that it had.
-  pub anew-found : (kind : ℕ) → found (laidAnew image further) kind ≡ cond (holds kind further) (bodyOf kind further) (found image kind)
-  unfolding laidAnew
-  anew-found kind =
-      rw (found-in-image all kind fit, found-good image kind (passed level image (f .accepted) .laid))
-      (body-of-merged kind (sections image) further (f .once) (f .not-held))
+    kept : (kind : ℕ) → kind < 128 → bodyOf kind (sections anew) ≡ bodyOf kind (sections image)
+    kept kind low =
+        found-same anew image kind (layout-accepted-exactly anew .1 (laid .good)) (accepted-readable level image was-accepted .good)
+        (λ body. (
+          λ has. ⊎-elim (λ old. old) (λ new. let h = high kind (body, new) in absurd (omega arith)) (laid .has kind body .0 has),
+          λ has. laid .has kind body .1 (inl has),
+        ))
 
-  kept : (kind : ℕ) → knows level kind ≡ true → bodyOf kind all ≡ bodyOf kind (sections image)
-  kept kind known = known-stays level kind (sections image) further (f .not-known) known
-
-  module _ (high : EachKind (λ kind. 128 ≤ kind) further) where
-    -- Where all new kinds are 128 or above, a panel says of the new image what it said of the old one.
-    pub high-verdict : verdictOf level (laidAnew image further) ≡ verdictOf level image
-    unfolding verdictOf sectionsVerdict laidAnew
-    high-verdict =
-        let p = passed level image (f .accepted) in
-        rw (
-          image-good all fit,
-          sections-of-image all,
-          p .laid,
-          unknown-high level (sections image) further high,
-          missing-same level (sections image) all kept (p .known),
-          bodies-same level (sections image) all kept,
-        )
-
-    -- And for all counts it gives the same reading or the same refusal.
-    pub high-reading : (counts : Counts) → readingOf level (laidAnew image further) counts ≡ readingOf level image counts
-    unfolding readingOf laidAnew
-    high-reading counts = rw high-verdict (ap (afterVerdict (verdictOf level image)) same)
-      where
-        above : (xs : List Section) → EachKind (λ kind. 128 ≤ kind) xs → EachKind (λ kind. eqb 4 kind ≡ false) xs
-        above [] h = tt
-        above (x ∷ xs) h = (ne-eqb 4 (x .kind) (λ same. omega (arith, h .0)), above xs (h .1))
-
-        same : sectionsReading (sections (laidAnew image further)) counts ≡ sectionsReading (sections image) counts
-        same =
-            rw (sections-of-image all)
-            (reading-same level (sections image) all kept (passed level image (f .accepted) .known) counts
-            (body-merged 4 (sections image) further (above further high)))
+    -- and, for all counts, the reading or refusal.
+    pub high-reading : (counts : Counts) → readingOf level anew counts ≡ readingOf level image counts
+    unfolding readingOf sectionsReading
+    high-reading counts = rw (high-verdict, kept 1 (omega arith), kept 2 (omega arith), kept 3 (omega arith), kept 4 (omega arith))
 
   module _ (kind : ℕ) (lowest : LowestLow further kind) where
-    -- Where a new kind is below 128, a panel refuses the new image by 9 and names the lowest such kind.
-    pub low-verdict : verdictOf level (laidAnew image further) ≡ NotAccepted (refusal 9 kind)
-    unfolding verdictOf sectionsVerdict laidAnew
-    low-verdict =
-        let p = passed level image (f .accepted) in
-        rw (
-          p .known,
-          image-good all fit,
-          sections-of-image all,
-          unknown-named level 0 kind all (rising-ascends 0 all (fit .rising)) (lowest-new level (sections image) further kind (p .passed-over) (f .not-known) lowest),
-        )
+    -- If one is lower, the panel refuses by number 9 and names the lowest such kind.
+    pub low-verdict : verdictOf level anew ≡ NotAccepted (refusal 9 kind)
+    low-verdict = verdict-refused-exactly level anew 9 kind .1 (anew-names level image further anew f laid kind lowest)
 
-    -- And so it does for all counts.
-    pub low-reading : (counts : Counts) → readingOf level (laidAnew image further) counts ≡ Refused (refusal 9 kind)
+    pub low-reading : (counts : Counts) → readingOf level anew counts ≡ Refused (refusal 9 kind)
     unfolding readingOf
     low-reading counts = rw low-verdict
 
+    -- In the numbers that C gets: 9, that kind, and every value 0.
+    pub low-told : (counts : Counts)
+        → (verdictTold (verdictOf level anew) ≡ record { number = 9; detail = kind })
+        × (answerTold (readingOf level anew counts) ≡ record { number = 9; detail = kind; pressure = pos 0; temperature = pos 0; unit = 0; mark = 0 })
+    low-told counts = (ap verdictTold low-verdict, ap answerTold (low-reading counts))
+
+  -- If all are 128 or above, C gets the same numbers as before.
+  pub high-told : AllHigh further → (counts : Counts)
+      → (verdictTold (verdictOf level anew) ≡ verdictTold (verdictOf level image)) × (answerTold (readingOf level anew counts) ≡ answerTold (readingOf level image counts))
+  high-told high counts = (ap verdictTold (high-verdict high), ap answerTold (high-reading high counts))
+
 -- There is no third case: all new kinds are 128 or above, or there is a lowest below 128.
-pub high-or-low : (further : List Section) → EachKind (λ kind. 128 ≤ kind) further ⊎ ((kind : ℕ) × LowestLow further kind)
-high-or-low = lowest-or-none
+pub high-or-low : (further : List Section) → AllHigh further ⊎ ((kind : ℕ) × LowestLow further kind)
+high-or-low = high-or-lowest
 
 -- ---- a level and a lower one
 
-module _ (higher : ℕ) (image : List ℕ) (counts : Counts) (reading : Reading) (shown : readingOf higher image counts ≡ Shown reading) where
+module _ (lower higher : ℕ) (below : Below lower higher) (image : List ℕ) (counts : Counts) (reading : Reading)
+    (shown : readingOf higher image counts ≡ Shown reading) where
   accepted : verdictOf higher image ≡ Accepted
   unfolding readingOf
   accepted = by (verdictOf higher image) shown
@@ -132,59 +92,79 @@ module _ (higher : ℕ) (image : List ℕ) (counts : Counts) (reading : Reading)
       by Accepted e = refl
       by (NotAccepted r) e = let z : _≡_ {A = ℕ} 0 1 = cc in absurd (omega arith)
 
-  measured : sectionsReading (sections image) counts ≡ Shown reading
+  passes : NoneGiven (verdictTable higher image)
+  passes = verdict-accepted-exactly higher image .0 accepted
+
+  good : NoneGiven (layoutTable image)
+  good = layout-accepted-exactly image .0 (accepted-readable higher image accepted .good)
+
+  trims : lower ≡ 2 → higher ≡ 2
+  trims two = ⊎-elim (λ (l, h, k). absurd (omega arith)) (λ (e, k). e) (below .grows 4 (inr (two, inl refl)))
+
+  -- Where a panel gives a reading, a panel of a lower level gives the same one if the image holds no kind below 128 that it does not know.
+  pub lower-reads : ((kind : ℕ) → Not (UnknownLow lower image kind)) → readingOf lower image counts ≡ Shown reading
   unfolding readingOf
-  measured = rw accepted at shown
+  lower-reads none =
+      let rows =
+      still-accepted higher image passes lower image (λ n. n (below .level)) good none (λ kind h. h) (λ kind body known h. h) trims in
+      rw (verdict-accepted-exactly lower image .1 rows) (rw accepted at shown)
 
-  module _ (lower : ℕ) (below : Below lower higher) where
-    -- Where a panel gives a reading, a panel of a lower level gives the same one if it may pass over all kinds that it does not know.
-    pub lower-reads : NoneUnknown lower (sections image) → readingOf lower image counts ≡ Shown reading
-    unfolding readingOf
-    lower-reads none = rw (lower-accepts lower higher below image accepted none) measured
-
-    -- Else it refuses by 9 and names the lowest that it may not pass over.
-    pub lower-refuses : (kind : ℕ) → LowestUnknown lower (sections image) kind → readingOf lower image counts ≡ Refused (refusal 9 kind)
-    unfolding readingOf
-    lower-refuses kind l = rw (lower-names lower higher below image accepted kind l)
-
-    -- There is no third case.
-    pub reads-or-refuses : NoneUnknown lower (sections image) ⊎ ((kind : ℕ) × LowestUnknown lower (sections image) kind)
-    reads-or-refuses = none-or-lowest lower 0 (sections image) (sections-ascend image (passed higher image accepted .laid))
+  -- Else it refuses by 9 and names the lowest such kind.
+  pub lower-refuses : (kind : ℕ) → Lowest (UnknownLow lower image) kind → readingOf lower image counts ≡ Refused (refusal 9 kind)
+  unfolding readingOf
+  lower-refuses kind lowest = rw (verdict-refused-exactly lower image 9 kind .1 (names-unknown lower image kind (λ n. n (below .level)) good lowest))
 
 -- ---- levels 1 and 2
 
+one-below-two : Below 1 2
+one-below-two = record { level = inl refl; grows = λ kind. ⊎-elim (λ (l, h, k). inl (inr refl, h, k)) (λ (e, k). absurd (omega arith)) }
+
 module _ (image : List ℕ) (counts : Counts) (reading : Reading) (shown : readingOf 2 image counts ≡ Shown reading) where
-  passes-at-two : (kind : ℕ) → holds kind (sections image) ≡ true → mayPass 2 kind ≡ true
-  passes-at-two kind = held-passes 2 kind (sections image) (passed 2 image (accepted 2 image counts reading shown) .passed-over)
+  rows-of-two : NoneGiven (verdictTable 2 image)
+  rows-of-two = passes 1 2 one-below-two image counts reading shown
 
-  -- Where a level 2 panel gives a reading and the image has no section of kind 4, a level 1 panel gives the same reading.
-  pub without-trim : holds 4 (sections image) ≡ false → readingOf 1 image counts ≡ Shown reading
-  without-trim absent =
-      lower-reads 2 image counts reading shown 1 one-below-two
-      (λ kind h.
-      decide (mayPass 1 kind)
-      (λ pass. pass)
-      (λ (stop : mayPass 1 kind ≡ false). let trim = only-trim kind (passes-at-two kind h) stop in never (sym absent ∙ (rw trim at h))))
+  -- the one kind below 128 that level 2 accepts and level 1 does not know
+  only-trim : (kind : ℕ) → UnknownLow 1 image kind → Not (Not (kind ≡ 4))
+  only-trim kind (has, low, unknown) not-four =
+      none-unknown 2 image rows-of-two kind (
+        has,
+        low,
+        ⊎-elim (λ (l, h, k). unknown (inl (inl refl, h, k))) (λ (e, k). ⊎-elim not-four (λ note. omega arith) k),
+      )
 
-  -- Where it has one, a level 1 panel refuses by 9 and names kind 4.
-  pub with-trim : holds 4 (sections image) ≡ true → readingOf 1 image counts ≡ Refused (refusal 9 4)
+  -- Where a level 2 panel gives a reading, a level 1 panel gives the same one
+  pub without-trim : Not (HasKind image 4) → readingOf 1 image counts ≡ Shown reading
+  without-trim none =
+      lower-reads 1 2 one-below-two image counts reading shown (λ kind u. only-trim kind u (λ four. none (rw four at (u .0))))
+
+  -- or, if kind 4 is present, refuses by 9 naming it,
+  pub with-trim : HasKind image 4 → readingOf 1 image counts ≡ Refused (refusal 9 4)
   with-trim there =
-      lower-refuses 2 image counts reading shown 1 one-below-two 4
-      (record {
-        held = there;
-        unknown = unfold knows in refl;
-        lowest = λ other h stop. let trim = only-trim other (passes-at-two other h) stop in omega arith;
-      })
+      lower-refuses 1 2 one-below-two image counts reading shown 4 (
+        (there, omega arith, ⊎-elim (λ (l, h, k). omega arith) (λ (e, k). omega arith)),
+        λ j h u. only-trim j u (λ four. omega arith),
+      )
 
-  -- It refuses exactly if kind 4 is present, and gives the same reading exactly if it is not.
-  pub refuses-exactly : (readingOf 1 image counts ≡ Refused (refusal 9 4)) ↔ (holds 4 (sections image) ≡ true)
+  trim-there : HasKind image 4 ⊎ Not (HasKind image 4)
+  trim-there =
+      let tested = there-passes image 4 (accepted-readable 2 image (accepted 1 2 one-below-two image counts reading shown) .good) in
+      decide (isThere (bodyOf 4 (sections image))) (λ e. inl (tested .yes e)) (λ e. inr (tested .no e))
+
+  -- exactly if it is.
+  pub refuses-exactly : (readingOf 1 image counts ≡ Refused (refusal 9 4)) ↔ HasKind image 4
   refuses-exactly = (
-    λ e. decide (holds 4 (sections image)) (λ there. there) (λ absent. let z : _≡_ {A = ℕ} 0 1 = cc (e, without-trim absent) in absurd (omega arith)),
+    λ e. ⊎-elim (λ there. there) (λ absent. let z : _≡_ {A = ℕ} 0 1 = cc (e, without-trim absent) in absurd (omega arith)) trim-there,
     with-trim,
   )
 
-  pub shows-exactly : (readingOf 1 image counts ≡ Shown reading) ↔ (holds 4 (sections image) ≡ false)
+  pub shows-exactly : (readingOf 1 image counts ≡ Shown reading) ↔ Not (HasKind image 4)
   shows-exactly = (
-    λ e. decide (holds 4 (sections image)) (λ there. let z : _≡_ {A = ℕ} 0 1 = cc (e, with-trim there) in absurd (omega arith)) (λ absent. absent),
+    λ e there. let z : _≡_ {A = ℕ} 0 1 = cc (e, with-trim there) in omega arith,
     without-trim,
   )
+
+  -- In the numbers that C gets: the same as level 2's, or 9, 4 and every value 0.
+  pub levels-told : (answerTold (readingOf 1 image counts) ≡ answerTold (readingOf 2 image counts))
+      ⊎ (HasKind image 4 × (answerTold (readingOf 1 image counts) ≡ record { number = 9; detail = 4; pressure = pos 0; temperature = pos 0; unit = 0; mark = 0 }))
+  levels-told =
+      ⊎-elim (λ there. inr (there, ap answerTold (with-trim there))) (λ absent. inl (ap answerTold (without-trim absent ∙ sym shown))) trim-there

@@ -1,61 +1,38 @@
--- An image laid out anew with further sections.
-use mathlib.Core.Bool.{Bool, true, false, cond}
+-- An image laid out anew with further sections, in document 01's words.
 use mathlib.Core.List.{List, [], _∷_}
+use mathlib.Core.Logic.{_⊎_, _↔_}
 use mathlib.Core.Path.{_≡_}
-use Prim.Native.Nat.{ℕ, _+_, _≤_, _<_}
-use lib.Dec.{ltb}
-use lib.ListN.{length}
-use Rattle.laws.specs.Bytes.{Bytes}
-use Rattle.refusals.specs.declared.Verdict.the-variants.{Accepted}
-use Rattle.image.specs.Layout.{linePlace}
-use Rattle.image.specs.Sections.{Section, sections, bodiesOf, imageOf}
-use Rattle.image.specs.Find.{bodyOf, isThere}
-use Rattle.panel.specs.Levels.{knows}
-use Rattle.panel.specs.Verdict.{verdictOf}
+use Prim.Native.Nat.{ℕ, _≤_, _<_}
+use Rattle.paper.specs.Words.{Not, Lowest}
+use Rattle.paper.specs.Table.{NoneGiven}
+use Rattle.paper.specs.Image.{HasKind, HasBody, layoutTable}
+use Rattle.paper.specs.Verdict.{Knows, verdictTable}
+use Rattle.image.specs.Sections.{Section}
 
--- a section before the first of a higher kind
-unfoldable pub inserted : Section → List Section → List Section
-inserted x [] = x ∷ []
-inserted x (s ∷ ss) = cond (ltb (x .kind) (s .kind)) (x ∷ s ∷ ss) (s ∷ inserted x ss)
+-- a section of this kind with this body is among them
+abbrev pub Among : (kind : ℕ) (body : List ℕ) → List Section → Type 0
+Among kind body [] = ⊥
+Among kind body (s ∷ ss) = ((kind ≡ s .kind) × (body ≡ s .body)) ⊎ Among kind body ss
 
--- sections with further ones among them, in rising order of kinds
-unfoldable pub merged : List Section → (further : List Section) → List Section
-merged ss [] = ss
-merged ss (x ∷ further) = inserted x (merged ss further)
+abbrev pub HasSection : (kind : ℕ) → List Section → Type 0
+HasSection kind ss = (body : List ℕ) × Among kind body ss
 
-unfoldable pub laidAnew : (image : List ℕ) → (further : List Section) → List ℕ
-laidAnew image further = imageOf (merged (sections image) further)
-
--- ---- the kinds of sections
-
-abbrev pub holds : (kind : ℕ) → List Section → Bool
-holds kind ss = isThere (bodyOf kind ss)
-
-abbrev pub EachKind : (ℕ → Type 0) → List Section → Type 0
-EachKind P [] = Unit {0}
-EachKind P (s ∷ ss) = P (s .kind) × EachKind P ss
-
-abbrev pub EachOnce : List Section → Type 0
-EachOnce [] = Unit {0}
-EachOnce (s ∷ ss) = (holds (s .kind) ss ≡ false) × EachOnce ss
-
-abbrev pub IsKind : ℕ → Type 0
-IsKind kind = (1 ≤ kind) × (kind ≤ 255)
-
--- the lowest kind below 128
-pub record LowestLow (ss : List Section) (kind : ℕ) : Type 0 where
-  pub held : holds kind ss ≡ true
-  pub low : kind < 128
-  pub lowest : EachKind (λ other. other < 128 → kind ≤ other) ss
-
--- further sections for an image that a panel of the level accepts: of kinds that the image does not hold and the level does not
--- know, each once, up to 16 sections and 4,096 bytes
+-- "Take an image that a panel accepts", and "further sections, of kinds it doesn't hold and that panel doesn't know"
 pub record Further (level : ℕ) (image : List ℕ) (further : List Section) : Type 0 where
-  pub bytes : Bytes image
-  pub accepted : verdictOf level image ≡ Accepted
-  pub kinds : EachKind IsKind further
-  pub once : EachOnce further
-  pub not-held : EachKind (λ kind. holds kind (sections image) ≡ false) further
-  pub not-known : EachKind (λ kind. knows level kind ≡ false) further
-  pub few : length (sections image) + length further ≤ 16
-  pub room : linePlace (length (sections image) + length further) + (length (bodiesOf (sections image)) + length (bodiesOf further)) ≤ 4096
+  pub accepted : NoneGiven (verdictTable level image)
+  pub not-held : (kind : ℕ) → HasSection kind further → Not (HasKind image kind)
+  pub not-known : (kind : ℕ) → HasSection kind further → Not (Knows level kind)
+
+-- "Lay it out anew" with them: any image with a good layout, which has 16 sections and 4,096 bytes at most, that has these bodies and
+-- those of the old image, and no other. Each kind is there once, as in every good layout.
+pub record LaidAnew (image : List ℕ) (further : List Section) (anew : List ℕ) : Type 0 where
+  pub good : NoneGiven (layoutTable anew)
+  pub has : (kind : ℕ) (body : List ℕ) → HasBody anew kind body ↔ (HasBody image kind body ⊎ Among kind body further)
+
+-- "all the new kinds are 128 or above"
+abbrev pub AllHigh : List Section → Type 0
+AllHigh further = (kind : ℕ) → HasSection kind further → 128 ≤ kind
+
+-- "one is lower": the lowest such kind
+abbrev pub LowestLow : List Section → (kind : ℕ) → Type 0
+LowestLow further = Lowest (λ kind. HasSection kind further × (kind < 128))

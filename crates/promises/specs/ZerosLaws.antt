@@ -3,6 +3,7 @@ use mathlib.Core.Bool.{cond, _&&_, and-false}
 use mathlib.Core.List.{List, [], _∷_}
 use mathlib.Core.Path.{_≡_, refl, _∙_}
 use Prim.Native.Nat.{ℕ, zero, suc, _+_}
+use native.Mathlib.Omega.{arith}
 use lib.Dec.{leb}
 use lib.ListN.{length, take, drop, getD, replicate}
 use lib.Seq.{getD-drop}
@@ -10,7 +11,9 @@ use Rattle.laws.specs.Cases.{decide}
 use Rattle.numbers.specs.Fields.{numberAt}
 use Rattle.numbers.specs.FieldsLaws.{byte-at}
 use Rattle.refusals.specs.declared.Verdict.the-variants.{Refused as NotAccepted}
-use Rattle.refusals.specs.Refusals.{refusal}
+use Rattle.refusals.specs.declared.Refusal.{Refusal}
+use Rattle.refusals.specs.declared.Filled.the-variants.{Refused as NotFilled}
+use Rattle.refusals.specs.Refusals.{Outcome, result, refused, answerTo, heldAfter, refusal, Fills}
 use Rattle.image.specs.Layout.{startVerdict, layoutVerdict}
 use Rattle.reading.specs.declared.Counts.{Counts}
 use Rattle.reading.specs.declared.Answer.the-variants.{Refused}
@@ -42,3 +45,11 @@ module _ (image : List ℕ) (e : numberAt 1 image 0 ≡ 0) where
   pub zeros-refused : (level : ℕ) (counts : Counts) → readingOf level image counts ≡ Refused (cond (isLevel level) (refusal 5 0) (refusal 20 0))
   unfolding readingOf verdictOf
   zeros-refused level counts = decide (isLevel level) (λ f. rw (f, layout-refused)) (λ f. rw f)
+
+-- whatever was lent to hold a result holds zeros after a refusal
+pub refused-zeros : (outcome : Outcome) (before after : List ℕ) (r : Refusal) → Fills outcome before (NotFilled r) after → after ≡ replicate (length before) 0
+refused-zeros outcome before after r fills = by outcome (fills .answers) (fills .holds)
+  where
+    by : (o : Outcome) → NotFilled r ≡ answerTo o → after ≡ heldAfter (length before) o → after ≡ replicate (length before) 0
+    by (refused q) e h = h
+    by (result x) e h = let z : _≡_ {A = ℕ} 0 1 = cc in absurd (omega arith)

@@ -7,7 +7,8 @@ use denote.RattleType.{Denots}
 use denote.Ref.{now}
 use denote.Signature.{Signature, Slot, typesAt}
 use denote.Triple.CanOwn.{CanOwn}
-use denote.Triple.Entry.{Args}
+use denote.Triple.Clauses.{Ended, Lasts, AtExit, atExit}
+use denote.Triple.Entry.{Args, Res}
 use borrow.Fn.World.{World}
 
 -- A call of a function with this signature: arguments that a memory of the machine can hold, while their lifetimes last. Nothing of it is a caller's to test:
@@ -36,3 +37,12 @@ lent call p = bytesAt p (call .lifetimes) (call .arguments)
 -- The signature of a function that takes a slice of bytes and a buffer.
 abbrev pub SliceAndBuffer : (result : Slot 2) → Signature
 SliceAndBuffer result = record { lifetimes = 2; outlives = []; params = SliceRef 0 tt u8 tt ∷ SliceRefMut 1 tt u8 tt ∷ []; result = result }
+
+-- Of every call that there can be of a function, by its own contract: `learnt` is what its `ensures` tells a caller, r is the answer, and b
+-- has what each lent buffer holds afterwards.
+module _ (T : Ended) where
+  abbrev pub EveryCall : (learnt : (κs : Lfts (T .signature .lifetimes)) → Args (T .signature) κs → Res (T .signature) κs → AtExit T κs → Type 0)
+      → (says : (call : Call (T .signature)) → Res (T .signature) (call .lifetimes) → Lasts T (call .lifetimes) (call .arguments) → Type 0) → Type 2
+  EveryCall learnt says =
+      (call : Call (T .signature)) (r : Res (T .signature) (call .lifetimes)) (b : Lasts T (call .lifetimes) (call .arguments))
+      → learnt (call .lifetimes) (call .arguments) r (atExit T (call .lifetimes) (call .arguments) b) → says call r b

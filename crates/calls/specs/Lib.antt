@@ -1,3 +1,4 @@
 pub mod Call
 pub mod CallLaws
 pub mod LendLaws
+pub mod BuildReads

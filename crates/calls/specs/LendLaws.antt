@@ -33,7 +33,7 @@ use denote.Triple.Entry.{onEntry}
 use borrow.Fn.World.{w₀}
 use borrow.Rule.Slice.Shared.{parts-cells}
 use Rattle.laws.specs.Bytes.{Bytes}
-use Rattle.lent.specs.Call.{Call, SliceAndBuffer, shared, buffer, next, lent}
+use Rattle.calls.specs.Call.{Call, SliceAndBuffer, shared, buffer, next, lent}
 
 module _ {M : Type 1} (𝓤 : URA M) (H : Heap 𝓤) (A : Atoms 𝓤) (W : Given 𝓤 H A) where
   run-cells : (l : List ℕ) (b o : ℕ) → ent 𝓤 (run 𝓤 H fullShare w8 b o l) (sem 𝓤 H A (cells (mem u8) l b o))

@@ -35,7 +35,7 @@ use borrow.Rule.Slice.Know.{AllWT, fit-at, shs-known, sl-known}
 use borrow.Rule.Slice.Shared.{OwnH}
 use borrow.Table.Referent.{fInt, rtF}
 use Rattle.laws.specs.Bytes.{Bytes}
-use Rattle.lent.specs.Call.{Call, BytesAt, shared, buffer, next, bytesAt, lent}
+use Rattle.calls.specs.Call.{Call, BytesAt, shared, buffer, next, bytesAt, lent}
 
 -- the share of a lifetime's token
 abbrev shareAt : (n j : ℕ) → Within n j → Shares n → Share

@@ -1,1 +1,0 @@
-// No code: what is known of the arguments of any call, in specs/.
