@@ -1,4 +1,4 @@
--- The body of a kind among an image's sections is document 01's: the bytes that the kind's contents line states.
+-- What a kind's contents line gives: the body of a kind among an image's sections is document 01's, the bytes that the line states.
 use mathlib.Core.Path.{_≡_, refl, sym, ap, _∙_}
 use mathlib.Core.Bool.{Bool, true, false, cond}
 use mathlib.Core.List.{List, []}

@@ -1,4 +1,4 @@
--- Laws of the order of kinds: it strictly rises in a good layout, and a kind is not among those above it.
+-- Laws of the order of kinds: it strictly rises in a good layout, a kind is not among those above it, and so sections are told by their bodies.
 use mathlib.Core.List.{List, [], _∷_}
 use mathlib.Core.Option.{none, some}
 use mathlib.Core.Path.{_≡_, refl, sym, _∙_}
@@ -50,11 +50,11 @@ module _ (kind : ℕ) (s : Section) (ss : List Section) where
   unfolding bodyOf
   later-body h = rw (ne-eqb kind (s .kind) (λ e. omega arith))
 
--- where no body is to be had, there is no section,
+-- a section's kind is there
 never-none : {X : Type 0} (s : Section) (ss : List Section) → bodyOf (s .kind) (s ∷ ss) ≡ none → X
 never-none s ss e = let z : _≡_ {A = ℕ} 0 1 = cc (first-body (s .kind) s ss refl) in absurd (omega arith)
 
--- and where all bodies are the same, the first kind is no lower, and the other bodies are the same
+-- where all bodies are the same, the first kind is no lower, and the other sections have the same bodies
 module _ (s t : Section) (ss ts : List Section) (rising : Ascending (s .kind) ss) (rising′ : Ascending (t .kind) ts)
     (same : (kind : ℕ) → bodyOf kind (s ∷ ss) ≡ bodyOf kind (t ∷ ts)) where
   no-lower : t .kind ≤ s .kind
