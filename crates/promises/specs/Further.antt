@@ -17,6 +17,11 @@ Among kind body (s ∷ ss) = ((kind ≡ s .kind) × (body ≡ s .body)) ⊎ Amon
 abbrev pub HasSection : (kind : ℕ) → List Section → Type 0
 HasSection kind ss = (body : List ℕ) × Among kind body ss
 
+-- "each once"
+abbrev pub EachOnce : List Section → Type 0
+EachOnce [] = Unit {0}
+EachOnce (s ∷ ss) = Not (HasSection (s .kind) ss) × EachOnce ss
+
 -- "Take an image that a panel accepts", and "further sections, of kinds it doesn't hold and that panel doesn't know"
 pub record Further (level : ℕ) (image : List ℕ) (further : List Section) : Type 0 where
   pub accepted : NoneGiven (verdictTable level image)
