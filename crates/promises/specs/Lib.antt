@@ -2,12 +2,13 @@ pub mod Answers
 pub mod Further
 pub mod Lower
 pub mod Merged
+pub mod WorkedImage
+pub mod Demand1
+pub mod Demand2
+pub mod Demand3
+pub mod Whole
 pub mod MergedLaws
 pub mod AnswersLaws
 pub mod ZerosLaws
 pub mod AnewLaws
 pub mod AnewBuilt
-pub mod Demand1
-pub mod Demand2
-pub mod Demand3
-pub mod Whole
