@@ -7,6 +7,7 @@ pub mod Demand1
 pub mod Demand2
 pub mod Demand3
 pub mod Whole
+pub mod WorkedReadings
 pub mod MergedLaws
 pub mod AnswersLaws
 pub mod ZerosLaws
