@@ -265,7 +265,9 @@ def print_steps():
         xt = prescaled(first + 1, numbers["MT"], numbers["FT0"], frequencies[1])
         print_set(xp, xt, rows(numbers))
     pressure, shown, *_ = reading(GAUGE, counts)
-    print(f"span × pressure {TRIM['span'] * pressure:,} | {quotient(TRIM['span'] * pressure, 2**28)} | {shown:,}\n")
+    product = TRIM["span"] * pressure
+    print("| span × pressure | product | / 2^28 | rounded | plus | shown pressure |\n|---|---|---|---|---|---|")
+    print(f"| {TRIM['span']:,} × {pressure:,} | {product:,} | {quotient(product, 2**28)} | zero {TRIM['zero']:,} | {shown:,} |\n")
     print_set(2**23, -(2**23), [[6553600, 65536], [131072, 3]])
 
 
@@ -301,7 +303,8 @@ EASY_ERRORS = [
 
 def all_answers(gauge):
     untrimmed = {name: numbers for name, numbers in gauge.items() if name != "trim"}
-    return [reading(g, counts)[-4:] for _, _, *counts in READINGS + REFUSED for g in (gauge, untrimmed)]
+    asked = [(gauge, row) for row in READINGS + REFUSED] + [(untrimmed, row) for row in READINGS]
+    return [reading(image, counts)[-4:] for image, (_, _, *counts) in asked]
 
 
 def print_errors():
