@@ -213,8 +213,9 @@ def print_readings():
     for name, words, *counts in READINGS:
         pressure, shown, temperature, unit, marked = reading(GAUGE, counts)
         rest = f"temperature = {signed(temperature)}; unit = {{}}; mark = {marked}"
-        print(f"-- {words}")
+        print(f"-- {words}: {shown / 65536:,.3f} bar, {temperature / 65536:,.3f} °C")
         theorem(name, 2, "workedImage", counts, f"Shown (record {{ pressure = {signed(shown)}; {rest.format(unit)} }})")
+        print(f"-- without the trim {pressure / 65536:,.3f} psi")
         theorem(name + "-untrimmed", 1, "untrimmedImage", counts, f"Shown (record {{ pressure = {signed(pressure)}; {rest.format(1)} }})")
     for name, words, *counts in REFUSED:
         print(f"-- {words}")

@@ -148,199 +148,217 @@ counted pressureNS pressureNR temperatureNS temperatureNR =
       temperature = record { sensor = record { 0 = temperatureNS }; reference = record { 0 = temperatureNR } };
     }
 
--- inside all limits
+-- inside all limits: 326.446 bar, 73.706 °C
 pub inside : readingOf 2 workedImage (counted 40000 7003827 66600 7247344)
     ≡ Shown (record { pressure = pos 21393939; temperature = pos 4830423; unit = 2; mark = 0 })
 unfolding workedOut
 inside = refl
 
+-- without the trim 4,748.557 psi
 pub inside-untrimmed : readingOf 1 untrimmedImage (counted 40000 7003827 66600 7247344)
     ≡ Shown (record { pressure = pos 311201430; temperature = pos 4830423; unit = 1; mark = 0 })
 unfolding workedOut
 inside-untrimmed = refl
 
--- pressure exactly PMIN, temperature exactly TMIN
+-- pressure exactly PMIN, temperature exactly TMIN: 0.021 bar, -20.000 °C
 pub lowest : readingOf 2 workedImage (counted 39334 7273131 66378 7205570)
     ≡ Shown (record { pressure = pos 1386; temperature = negℤ (pos 1310720); unit = 2; mark = 0 })
 unfolding workedOut
 lowest = refl
 
+-- without the trim 15.000 psi
 pub lowest-untrimmed : readingOf 1 untrimmedImage (counted 39334 7273131 66378 7205570)
     ≡ Shown (record { pressure = pos 983040; temperature = negℤ (pos 1310720); unit = 1; mark = 0 })
 unfolding workedOut
 lowest-untrimmed = refl
 
--- temperature exactly TMAX
+-- temperature exactly TMAX: 174.192 bar, 150.000 °C
 pub hottest : readingOf 2 workedImage (counted 42064 7508401 66103 7219644)
     ≡ Shown (record { pressure = pos 11415868; temperature = pos 9830400; unit = 2; mark = 0 })
 unfolding workedOut
 hottest = refl
 
+-- without the trim 2,540.697 psi
 pub hottest-untrimmed : readingOf 1 untrimmedImage (counted 42064 7508401 66103 7219644)
     ≡ Shown (record { pressure = pos 166507106; temperature = pos 9830400; unit = 1; mark = 0 })
 unfolding workedOut
 hottest-untrimmed = refl
 
--- pressure exactly PMAX; the trim's product is a half
+-- pressure exactly PMAX; the trim's product is a half: 1,102.341 bar, 23.528 °C
 pub highest : readingOf 2 workedImage (counted 43602 7186339 66314 7197400)
     ≡ Shown (record { pressure = pos 72243034; temperature = pos 1541960; unit = 2; mark = 0 })
 unfolding workedOut
 highest = refl
 
+-- without the trim 16,000.000 psi
 pub highest-untrimmed : readingOf 1 untrimmedImage (counted 43602 7186339 66314 7197400)
     ≡ Shown (record { pressure = pos 1048576000; temperature = pos 1541960; unit = 1; mark = 0 })
 unfolding workedOut
 highest-untrimmed = refl
 
--- temperature one unit below TMIN
+-- temperature one unit below TMIN: 384.080 bar, -20.000 °C
 pub too-cold : readingOf 2 workedImage (counted 43024 7487079 33004 3579926)
     ≡ Shown (record { pressure = pos 25171077; temperature = negℤ (pos 1310721); unit = 2; mark = 1 })
 unfolding workedOut
 too-cold = refl
 
+-- without the trim 5,584.329 psi
 pub too-cold-untrimmed : readingOf 1 untrimmedImage (counted 43024 7487079 33004 3579926)
     ≡ Shown (record { pressure = pos 365974593; temperature = negℤ (pos 1310721); unit = 1; mark = 1 })
 unfolding workedOut
 too-cold-untrimmed = refl
 
--- temperature one unit above TMAX
+-- temperature one unit above TMAX: 273.488 bar, 150.000 °C
 pub too-hot : readingOf 2 workedImage (counted 20000 3523463 66202 7228409)
     ≡ Shown (record { pressure = pos 17923328; temperature = pos 9830401; unit = 2; mark = 1 })
 unfolding workedOut
 too-hot = refl
 
+-- without the trim 3,980.611 psi
 pub too-hot-untrimmed : readingOf 1 untrimmedImage (counted 20000 3523463 66202 7228409)
     ≡ Shown (record { pressure = pos 260873297; temperature = pos 9830401; unit = 1; mark = 1 })
 unfolding workedOut
 too-hot-untrimmed = refl
 
--- pressure one unit below PMIN
+-- pressure one unit below PMIN: 0.021 bar, -10.743 °C
 pub too-low : readingOf 2 workedImage (counted 19502 3606089 60007 6515906)
     ≡ Shown (record { pressure = pos 1386; temperature = negℤ (pos 704048); unit = 2; mark = 2 })
 unfolding workedOut
 too-low = refl
 
+-- without the trim 15.000 psi
 pub too-low-untrimmed : readingOf 1 untrimmedImage (counted 19502 3606089 60007 6515906)
     ≡ Shown (record { pressure = pos 983039; temperature = negℤ (pos 704048); unit = 1; mark = 2 })
 unfolding workedOut
 too-low-untrimmed = refl
 
--- pressure one unit above PMAX
+-- pressure one unit above PMAX: 1,102.341 bar, 52.475 °C
 pub too-high : readingOf 2 workedImage (counted 21837 3599120 33262 3613459)
     ≡ Shown (record { pressure = pos 72243034; temperature = pos 3438970; unit = 2; mark = 2 })
 unfolding workedOut
 too-high = refl
 
+-- without the trim 16,000.000 psi
 pub too-high-untrimmed : readingOf 1 untrimmedImage (counted 21837 3599120 33262 3613459)
     ≡ Shown (record { pressure = pos 1048576001; temperature = pos 3438970; unit = 1; mark = 2 })
 unfolding workedOut
 too-high-untrimmed = refl
 
--- pressure one unit above PMAX, temperature one unit above TMAX
+-- pressure one unit above PMAX, temperature one unit above TMAX: 1,102.341 bar, 150.000 °C
 pub too-high-and-hot : readingOf 2 workedImage (counted 43202 7120580 66231 7221635)
     ≡ Shown (record { pressure = pos 72243034; temperature = pos 9830401; unit = 2; mark = 3 })
 unfolding workedOut
 too-high-and-hot = refl
 
+-- without the trim 16,000.000 psi
 pub too-high-and-hot-untrimmed : readingOf 1 untrimmedImage (counted 43202 7120580 66231 7221635)
     ≡ Shown (record { pressure = pos 1048576001; temperature = pos 9830401; unit = 1; mark = 3 })
 unfolding workedOut
 too-high-and-hot-untrimmed = refl
 
--- pressure -128 psi; the trim's product is a half below zero
+-- pressure -128 psi; the trim's product is a half below zero: -9.840 bar, -2.039 °C
 pub below-zero : readingOf 2 workedImage (counted 38801 7199087 66016 7170756)
     ≡ Shown (record { pressure = negℤ (pos 644879); temperature = negℤ (pos 133602); unit = 2; mark = 2 })
 unfolding workedOut
 below-zero = refl
 
+-- without the trim -128.000 psi
 pub below-zero-untrimmed : readingOf 1 untrimmedImage (counted 38801 7199087 66016 7170756)
     ≡ Shown (record { pressure = negℤ (pos 8388608); temperature = negℤ (pos 133602); unit = 1; mark = 2 })
 unfolding workedOut
 below-zero-untrimmed = refl
 
--- both frequencies are halves
+-- both frequencies are halves: 501.813 bar, -19.759 °C
 pub half-frequencies : readingOf 2 workedImage (counted 195001 33554432 618774 67108864)
     ≡ Shown (record { pressure = pos 32886815; temperature = negℤ (pos 1294914); unit = 2; mark = 0 })
 unfolding workedOut
 half-frequencies = refl
 
+-- without the trim 7,291.600 psi
 pub half-frequencies-untrimmed : readingOf 1 untrimmedImage (counted 195001 33554432 618774 67108864)
     ≡ Shown (record { pressure = pos 477862308; temperature = negℤ (pos 1294914); unit = 1; mark = 0 })
 unfolding workedOut
 half-frequencies-untrimmed = refl
 
--- XP and XT of the pressure set are halves
+-- XP and XT of the pressure set are halves: 354.060 bar, -18,467.275 °C
 pub half-x-pressure : readingOf 2 workedImage (counted 40439 7051232 66093 6396435)
     ≡ Shown (record { pressure = pos 23203673; temperature = negℤ (pos 1210271362); unit = 2; mark = 1 })
 unfolding workedOut
 half-x-pressure = refl
 
+-- without the trim 5,148.999 psi
 pub half-x-pressure-untrimmed : readingOf 1 untrimmedImage (counted 40439 7051232 66093 6396435)
     ≡ Shown (record { pressure = pos 337444807; temperature = negℤ (pos 1210271362); unit = 1; mark = 1 })
 unfolding workedOut
 half-x-pressure-untrimmed = refl
 
--- XP and XT of the temperature set are halves below zero
+-- XP and XT of the temperature set are halves below zero: 122.073 bar, 162.504 °C
 pub half-x-temperature : readingOf 2 workedImage (counted 40015 7203427 66411 7394062)
     ≡ Shown (record { pressure = pos 8000159; temperature = pos 10649880; unit = 2; mark = 1 })
 unfolding workedOut
 half-x-temperature = refl
 
+-- without the trim 1,784.899 psi
 pub half-x-temperature-untrimmed : readingOf 1 untrimmedImage (counted 40015 7203427 66411 7394062)
     ≡ Shown (record { pressure = pos 116975116; temperature = pos 10649880; unit = 1; mark = 1 })
 unfolding workedOut
 half-x-temperature-untrimmed = refl
 
--- every product of the pressure set is a half
+-- every product of the pressure set is a half: 873.117 bar, 128.003 °C
 pub half-sums-pressure : readingOf 2 workedImage (counted 40043 6696138 66186 7211979)
     ≡ Shown (record { pressure = pos 57220611; temperature = pos 8388778; unit = 2; mark = 0 })
 unfolding workedOut
 half-sums-pressure = refl
 
+-- without the trim 12,675.970 psi
 pub half-sums-pressure-untrimmed : readingOf 1 untrimmedImage (counted 40043 6696138 66186 7211979)
     ≡ Shown (record { pressure = pos 830732357; temperature = pos 8388778; unit = 1; mark = 0 })
 unfolding workedOut
 half-sums-pressure-untrimmed = refl
 
--- every product of the temperature set is a half
+-- every product of the temperature set is a half: 423.929 bar, 12.938 °C
 pub half-sums-temperature : readingOf 2 workedImage (counted 40107 6951807 66067 7173208)
     ≡ Shown (record { pressure = pos 27782586; temperature = pos 847888; unit = 2; mark = 0 })
 unfolding workedOut
 half-sums-temperature = refl
 
+-- without the trim 6,162.181 psi
 pub half-sums-temperature-untrimmed : readingOf 1 untrimmedImage (counted 40107 6951807 66067 7173208)
     ≡ Shown (record { pressure = pos 403844689; temperature = pos 847888; unit = 1; mark = 0 })
 unfolding workedOut
 half-sums-temperature-untrimmed = refl
 
--- the pressure set's XT is -(2^24 + 1/2), the temperature set's XP is -2^24
+-- the pressure set's XT is -(2^24 + 1/2), the temperature set's XP is -2^24: 324.711 bar, -11,663.996 °C
 pub x-at-limits : readingOf 2 workedImage (counted 34224 7167782 51199 6354416)
     ≡ Shown (record { pressure = pos 21280285; temperature = negℤ (pos 764411654); unit = 2; mark = 1 })
 unfolding workedOut
 x-at-limits = refl
 
+-- without the trim 4,723.409 psi
 pub x-at-limits-untrimmed : readingOf 1 untrimmedImage (counted 34224 7167782 51199 6354416)
     ≡ Shown (record { pressure = pos 309553304; temperature = negℤ (pos 764411654); unit = 1; mark = 1 })
 unfolding workedOut
 x-at-limits-untrimmed = refl
 
--- pressure exactly 2^31
+-- pressure exactly 2^31: 2,258.657 bar, 78.759 °C
 pub pressure-limit : readingOf 2 workedImage (counted 45800 7142510 66008 7171008)
     ≡ Shown (record { pressure = pos 148023324; temperature = pos 5161568; unit = 2; mark = 2 })
 unfolding workedOut
 pressure-limit = refl
 
+-- without the trim 32,768.000 psi
 pub pressure-limit-untrimmed : readingOf 1 untrimmedImage (counted 45800 7142510 66008 7171008)
     ≡ Shown (record { pressure = pos 2147483648; temperature = pos 5161568; unit = 1; mark = 2 })
 unfolding workedOut
 pressure-limit-untrimmed = refl
 
--- temperature exactly -2^31
+-- temperature exactly -2^31: 300.243 bar, -32,768.000 °C
 pub temperature-limit : readingOf 2 workedImage (counted 42000 7363009 77008 7164357)
     ≡ Shown (record { pressure = pos 19676729; temperature = negℤ (pos 2147483648); unit = 2; mark = 1 })
 unfolding workedOut
 temperature-limit = refl
 
+-- without the trim 4,368.588 psi
 pub temperature-limit-untrimmed : readingOf 1 untrimmedImage (counted 42000 7363009 77008 7164357)
     ≡ Shown (record { pressure = pos 286299770; temperature = negℤ (pos 2147483648); unit = 1; mark = 1 })
 unfolding workedOut
