@@ -5,6 +5,7 @@ use mathlib.Core.Logic.{_⊎_, inl, inr, ⊎-elim, _↔_}
 use mathlib.Core.Option.{Option, none, some}
 use mathlib.Core.Path.{_≡_, refl, sym, ap, _∙_}
 use Prim.Native.Nat.{ℕ, _+_, _*_, _≤_}
+use native.Mathlib.Nat.{le-refl}
 use native.Mathlib.Omega.{arith}
 use borrow.Author.Tests.{eqb-true, eq-eqb}
 use lib.Dec.{eqb}
@@ -18,6 +19,7 @@ use Rattle.refusals.specs.Refusals.{result}
 use Rattle.image.specs.Layout.{layoutVerdict}
 use Rattle.image.specs.Sections.{Section, sections, bodiesOf, imageOf, Fit}
 use Rattle.image.specs.Find.{bodyOf, isThere}
+use Rattle.image.specs.OrderLaws.{Ascending, none-below}
 use Rattle.image.specs.RoundTrip.{image-length, image-good, sections-of-image}
 use Rattle.image.specs.Back.{sections-fit}
 use Rattle.builder.specs.Build.{buildImage}
@@ -72,12 +74,20 @@ each : (P : ℕ → Type 0) (ss : List Section) → ((kind : ℕ) → HasSection
 each P [] f = tt
 each P (s ∷ ss) f = (f (s .kind) (s .body, inl (refl, refl)), each P ss (λ kind (body, a). f kind (body, inr a)))
 
+-- sections of rising kinds
+pub ascending-once : (previous : ℕ) (ss : List Section) → Ascending previous ss → EachOnce ss
+ascending-once previous [] rising = tt
+ascending-once previous (s ∷ ss) rising = (
+  λ (body, a). never (rw (none-below (s .kind) (s .kind) ss (rising .1) (le-refl (s .kind))) at (among-held (s .kind) body ss a)),
+  ascending-once (s .kind) ss (rising .1),
+)
+
 -- ---- the builder lays it out
 
 module _ (level : ℕ) (image : List ℕ) (further : List Section) (bytes : Bytes image) (f : Further level image further) (once : EachOnce further)
     (kinds : (kind : ℕ) → HasSection kind further → IsKind kind) (few : length (sections image) + length further ≤ 16)
     (room : 2 + 8 * (length (sections image) + length further) + (length (bodiesOf (sections image)) + length (bodiesOf further)) ≤ 4096) where
-  abbrev pub all : List Section
+  abbrev all : List Section
   all = merged (sections image) further
 
   good : layoutVerdict image ≡ Accepted
@@ -93,7 +103,7 @@ module _ (level : ℕ) (image : List ℕ) (further : List Section) (bytes : Byte
   body-is kind = body-of-merged kind (sections image) further (once-tested further once) new
 
   -- It can be laid out anew,
-  pub anew-laid : LaidAnew image further (imageOf all)
+  pub anew-laid : LaidAnew image further (imageOf (merged (sections image) further))
   anew-laid =
       record {
         good = layout-accepted-exactly (imageOf all) .0 (image-good all fit);
@@ -122,7 +132,8 @@ module _ (level : ℕ) (image : List ℕ) (further : List Section) (bytes : Byte
       has-body kind body (inr a) = rw (among-held kind body further a) (among-found kind body further once a)
 
   -- by the builder, in any buffer that has room for it,
-  pub anew-built : (size : ℕ) → length (imageOf all) ≤ size → buildImage size (linesOf all) (bodiesOf all) ≡ result (imageOf all)
+  pub anew-built : (size : ℕ) → length (imageOf (merged (sections image) further)) ≤ size
+      → buildImage size (linesOf (merged (sections image) further)) (bodiesOf (merged (sections image) further)) ≡ result (imageOf (merged (sections image) further))
   unfolding buildImage
   anew-built size enough =
       rw (

@@ -7,9 +7,11 @@ pub mod Demand1
 pub mod Demand2
 pub mod Demand3
 pub mod Whole
+pub mod Starred
 pub mod WorkedReadings
 pub mod MergedLaws
 pub mod AnswersLaws
 pub mod ZerosLaws
 pub mod AnewLaws
 pub mod AnewBuilt
+pub mod Instances

@@ -12,5 +12,3 @@ pub mod PolynomialLaws
 pub mod MeasuredLaws
 pub mod ToldLaws
 pub mod Examples
-pub mod Nested
-pub mod NestedLaws
