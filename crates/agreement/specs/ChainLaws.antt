@@ -1,8 +1,7 @@
 -- A sum that stops at its first step beyond the limit is document 01's where no running sum is beyond it, and refused 25 where one is.
 -- Laws over any terms, for the places of a row and for the rows of a set.
-use mathlib.Core.Bool.{Bool, true, false}
 use mathlib.Core.Logic.{_⊎_, inl, inr}
-use mathlib.Core.Path.{_≡_, refl, sym, ap, _∙_}
+use mathlib.Core.Path.{_≡_, refl}
 use Prim.Native.Nat.{ℕ, zero, suc, _+_, _-_, _^_, _≤_, _<_}
 use native.Mathlib.Omega.{arith}
 use lib.Dec.{leb, lit<}

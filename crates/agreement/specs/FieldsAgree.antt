@@ -1,13 +1,11 @@
 -- Numbers among bytes, and sums of numbers: the definitions' are document 01's.
 use mathlib.Core.Path.{_≡_, refl, sym, ap, _∙_, fun-ext}
-use mathlib.Core.Bool.{true, false, cond}
-use mathlib.Core.List.{List, [], _∷_}
+use mathlib.Core.List.{List}
 use Prim.Native.Nat.{ℕ, zero, suc, _+_, _*_, _^_, _≤_, _<_}
 use native.Mathlib.Numerals.{add-one}
 use native.Mathlib.Omega.{arith}
-use lib.Dec.{leb, ltb}
-use lib.IntN.{ℤ, pos, _-ℤ_}
-use lib.ListN.{length, take, drop, getD, drop-of-length-le, List·getD-eq-default}
+use lib.Dec.{leb}
+use lib.ListN.{length, take, drop, drop-of-length-le, List·getD-eq-default}
 use lib.Seq.{drop-cons, take-length, take-nil}
 use Rattle.paper.specs.Fields.{number, signed, sumFrom}
 use Rattle.laws.specs.Cases.{split, decide}

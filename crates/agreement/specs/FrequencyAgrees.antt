@@ -1,27 +1,26 @@
 -- Frequencies, and X: known as document 01 says, or refused by 21 to 24 where it says so.
 use mathlib.Core.Bool.{_&&_}
-use mathlib.Core.List.{List, [], _∷_}
-use mathlib.Core.Logic.{_⊎_, ⊎-map}
-use mathlib.Core.Path.{_≡_, refl, sym}
-use Prim.Native.Nat.{ℕ, _*_, _^_, _≤_, _<_}
+use mathlib.Core.List.{[], _∷_}
+use mathlib.Core.Logic.{_⊎_}
+use mathlib.Core.Path.{_≡_}
+use Prim.Native.Nat.{ℕ, _*_, _^_, _≤_}
 use native.Mathlib.Omega.{arith}
 use borrow.Author.Tests.{leb-true, eqb-true, eqb-false}
 use lib.Dec.{leb, eqb, lit<}
 use lib.IntN.{ℤ, pos, _-ℤ_, _*ℤ_}
 use lib.Signed.{leZ, _<ℤ_}
 use Rattle.paper.specs.Words.{Outside, Beyond}
-use Rattle.paper.specs.Table.{Row, row}
+use Rattle.paper.specs.Table.{row}
 use Rattle.paper.specs.Reading.{Frequency, Prescaled}
 use Rattle.paper.specs.ReadingTable.{channelTable}
 use Rattle.laws.specs.Cases.{decide}
 use Rattle.refusals.specs.Refusals.{ask}
 use Rattle.refusals.specs.VerdictLaws.{asked}
 use Rattle.whole.specs.Rounded.{rounded}
-use Rattle.sets.specs.declared.Prescale.{Prescale}
 use Rattle.reading.specs.declared.value.Value.the-variants.{Known}
-use Rattle.reading.specs.Value.{given, within}
+use Rattle.reading.specs.Value.{given}
 use Rattle.reading.specs.Frequency.{hertz, frequencyOf, scaledOf, prescaledOf}
-use Rattle.agreement.specs.TestsLaws.{Fails, fails-le, fails-leℤ, fails-eq, fails-and, fails-as, fails-outside, ask-judges}
+use Rattle.agreement.specs.TestsLaws.{Fails, fails-le, fails-leℤ, fails-and, fails-as, fails-outside, ask-judges}
 use Rattle.agreement.specs.NearestLaws.{rounded-is-nearest, nearest-is-rounded, nearest-once}
 use Rattle.agreement.specs.ValueLaws.{ValueGives, given-then, within-gives}
 

@@ -1,18 +1,20 @@
 -- Document 01's sums are the nested polynomial that the maker's manual prints.
-use mathlib.Core.Bool.{_&&_, and-false}
+use mathlib.Core.Bool.{and-false}
 use mathlib.Core.List.{List}
-use mathlib.Core.Logic.{_⊎_, inl, inr, ⊎-elim}
-use mathlib.Core.Path.{_≡_, refl, sym, ap, _∙_}
-use Prim.Native.Nat.{ℕ, zero, suc, _-_, _^_, _≤_, _<_}
+use mathlib.Core.Logic.{_⊎_, inl, inr}
+use mathlib.Core.Path.{_≡_, refl, sym}
+use Prim.Native.Nat.{ℕ, zero, suc, _+_, _-_, _^_, _≤_, _<_}
+use native.Mathlib.Nat.{zero-add, suc-add}
 use native.Mathlib.Omega.{arith}
 use borrow.Author.Tests.{le-leb, lt-leb}
 use lib.Dec.{leb, lit<}
-use lib.IntN.{ℤ, pos, _+ℤ_, _*ℤ_, +ℤ-idr}
+use lib.IntN.{ℤ, pos, _*ℤ_, +ℤ-idr}
 use Rattle.paper.specs.Words.{Not, Nearest}
 use Rattle.paper.specs.Bodies.{pressureOrder, temperatureOrder, SetWrong}
+use Rattle.paper.specs.Verdict.{verdictTable}
 use Rattle.paper.specs.Reading.{Sum, Coefficient, RowFrom, Result}
+use Rattle.paper.specs.ReadingTable.{countsTable}
 use Rattle.paper.specs.Manual.{Nested, coefficient, ManualRow, ManualResult, ShowsByManual}
-use Rattle.laws.specs.Cases.{split}
 use Rattle.reading.specs.declared.Counts.{Counts}
 use Rattle.reading.specs.declared.Reading.{Reading}
 use Rattle.reading.specs.declared.Answer.the-variants.{Shown}
@@ -23,165 +25,59 @@ use Rattle.agreement.specs.TableLaws.{none-before}
 use Rattle.agreement.specs.VerdictAgrees.{verdict-accepted-exactly, accepted-readable}
 use Rattle.agreement.specs.SetAgrees.{few-rows, few-places}
 use Rattle.agreement.specs.ReadingAgrees.{onPaper, reading-shown-exactly}
-use Rattle.paper.specs.Verdict.{verdictTable}
-use Rattle.paper.specs.ReadingTable.{countsTable}
 
 -- ---- a sum of at most five terms, with zeros for the others
 
 nothing : (x : ℤ) → Nearest (pos 0) (pos 0 *ℤ x) (2 ^ 24)
 nothing x = rw (nothing-turned x) at (rounded-is-nearest (pos 0 *ℤ x) (2 ^ 24) (lit< tt))
 
-module _ (x : ℤ) (Term : ℕ → ℤ → Type 0) where
+module _ (x : ℤ) (Term : ℕ → ℤ → Type 0) (last : ℕ) where
   -- the i-th term, or 0 past the last
-  abbrev TermOr0 : (last i : ℕ) → ℤ → Type 0
-  TermOr0 last i c = ((i ≤ last) × Term i c) ⊎ ((last < i) × (c ≡ pos 0))
+  abbrev TermOr0 : (i : ℕ) → ℤ → Type 0
+  TermOr0 i c = ((i ≤ last) × Term i c) ⊎ ((last < i) × (c ≡ pos 0))
 
-  record Five (last : ℕ) (z : ℤ) : Type 0 where
+  zeros : (more i : ℕ) → last < i → Sum x TermOr0 more i (pos 0)
+  zeros zero i h = inr (h, refl)
+  zeros (suc more) i h = (pos 0, pos 0, pos 0, inr (h, refl), zeros more (i + 1) (omega arith), nothing x, refl)
+
+  with-zeros : (after more i : ℕ) → i + after ≡ last → (z : ℤ) → Sum x Term after i z → Sum x TermOr0 (after + more) i z
+  with-zeros zero zero i h z s = inl (omega arith, s)
+  with-zeros zero (suc more) i h z s =
+      rw (zero-add (suc more)) (z, pos 0, pos 0, inl (omega arith, s), zeros more (i + 1) (omega arith), nothing x, sym (+ℤ-idr z))
+  with-zeros (suc after) more i h z (t, r, p, t-is, r-is, p-is, e) =
+      rw (suc-add after more) (t, r, p, inl (omega arith, t-is), with-zeros after more (i + 1) (omega arith) r r-is, p-is, e)
+
+  record Five (z : ℤ) : Type 0 where
     c0 : ℤ
     c1 : ℤ
     c2 : ℤ
     c3 : ℤ
     c4 : ℤ
-    is0 : TermOr0 last 0 c0
-    is1 : TermOr0 last 1 c1
-    is2 : TermOr0 last 2 c2
-    is3 : TermOr0 last 3 c3
-    is4 : TermOr0 last 4 c4
+    is0 : TermOr0 0 c0
+    is1 : TermOr0 1 c1
+    is2 : TermOr0 2 c2
+    is3 : TermOr0 3 c3
+    is4 : TermOr0 4 c4
     nested : Nested x c0 c1 c2 c3 c4 z
 
-  there : (last i : ℕ) (c : ℤ) → i ≤ last → Term i c → TermOr0 last i c
-  there last i c h t = inl (h, t)
-
-  past : (last i : ℕ) → last < i → TermOr0 last i (pos 0)
-  past last i h = inr (h, refl)
-
-  -- the last term's product
-  alone : (c p : ℤ) → Nearest p (c *ℤ x) (2 ^ 24) → Nearest p ((c +ℤ pos 0) *ℤ x) (2 ^ 24)
-  alone c p n = rw (+ℤ-idr c) n
-
-  five : (last : ℕ) → last ≤ 4 → (z : ℤ) → Sum x Term last 0 z → Five last z
-  five zero h z t =
-      record {
-        c0 = z;
-        c1 = pos 0;
-        c2 = pos 0;
-        c3 = pos 0;
-        c4 = pos 0;
-        is0 = there 0 0 z (omega arith) t;
-        is1 = past 0 1 (omega arith);
-        is2 = past 0 2 (omega arith);
-        is3 = past 0 3 (omega arith);
-        is4 = past 0 4 (omega arith);
-        nested = record {
-          x4 = pos 0;
-          x3 = pos 0;
-          x2 = pos 0;
-          x1 = pos 0;
-          x4-is = nothing x;
-          x3-is = nothing x;
-          x2-is = nothing x;
-          x1-is = nothing x;
-          is = sym (+ℤ-idr z);
-        };
-      }
-  five (suc zero) h z (a, b, p, a-is, b-is, p-is, e) =
-      record {
-        c0 = a;
-        c1 = b;
-        c2 = pos 0;
-        c3 = pos 0;
-        c4 = pos 0;
-        is0 = there 1 0 a (omega arith) a-is;
-        is1 = there 1 1 b (omega arith) b-is;
-        is2 = past 1 2 (omega arith);
-        is3 = past 1 3 (omega arith);
-        is4 = past 1 4 (omega arith);
-        nested = record {
-          x4 = pos 0;
-          x3 = pos 0;
-          x2 = pos 0;
-          x1 = p;
-          x4-is = nothing x;
-          x3-is = nothing x;
-          x2-is = nothing x;
-          x1-is = alone b p p-is;
-          is = e;
-        };
-      }
-  five (suc (suc zero)) h z (a, r, p, a-is, (b, c, q, b-is, c-is, q-is, f), p-is, e) =
-      record {
-        c0 = a;
-        c1 = b;
-        c2 = c;
-        c3 = pos 0;
-        c4 = pos 0;
-        is0 = there 2 0 a (omega arith) a-is;
-        is1 = there 2 1 b (omega arith) b-is;
-        is2 = there 2 2 c (omega arith) c-is;
-        is3 = past 2 3 (omega arith);
-        is4 = past 2 4 (omega arith);
-        nested = record {
-          x4 = pos 0;
-          x3 = pos 0;
-          x2 = q;
-          x1 = p;
-          x4-is = nothing x;
-          x3-is = nothing x;
-          x2-is = alone c q q-is;
-          x1-is = rw f at p-is;
-          is = e;
-        };
-      }
-  five (suc (suc (suc zero))) h z (a, r, p, a-is, (b, s, q, b-is, (c, d, o, c-is, d-is, o-is, g), q-is, f), p-is, e) =
-      record {
-        c0 = a;
-        c1 = b;
-        c2 = c;
-        c3 = d;
-        c4 = pos 0;
-        is0 = there 3 0 a (omega arith) a-is;
-        is1 = there 3 1 b (omega arith) b-is;
-        is2 = there 3 2 c (omega arith) c-is;
-        is3 = there 3 3 d (omega arith) d-is;
-        is4 = past 3 4 (omega arith);
-        nested = record {
-          x4 = pos 0;
-          x3 = o;
-          x2 = q;
-          x1 = p;
-          x4-is = nothing x;
-          x3-is = alone d o o-is;
-          x2-is = rw g at q-is;
-          x1-is = rw f at p-is;
-          is = e;
-        };
-      }
-  five (suc (suc (suc (suc zero)))) h z
-      (a, r, p, a-is, (b, s, q, b-is, (c, t, o, c-is, (d, u, n, d-is, u-is, n-is, k), o-is, g), q-is, f), p-is, e) =
-      record {
-        c0 = a;
-        c1 = b;
-        c2 = c;
-        c3 = d;
-        c4 = u;
-        is0 = there 4 0 a (omega arith) a-is;
-        is1 = there 4 1 b (omega arith) b-is;
-        is2 = there 4 2 c (omega arith) c-is;
-        is3 = there 4 3 d (omega arith) d-is;
-        is4 = there 4 4 u (omega arith) u-is;
-        nested = record {
-          x4 = n;
-          x3 = o;
-          x2 = q;
-          x1 = p;
-          x4-is = n-is;
-          x3-is = rw k at o-is;
-          x2-is = rw g at q-is;
-          x1-is = rw f at p-is;
-          is = e;
-        };
-      }
-  five (suc (suc (suc (suc (suc last))))) h z s = absurd (omega arith)
+  five : last ≤ 4 → (z : ℤ) → Sum x Term last 0 z → Five z
+  five h z s = let all : last + (4 - last) ≡ 4 = omega arith in by (rw all at (with-zeros last (4 - last) 0 (omega arith) z s))
+    where
+      by : Sum x TermOr0 4 0 z → Five z
+      by (a, r, p, a-is, (b, s, q, b-is, (c, t, o, c-is, (d, e, n, d-is, e-is, n-is, k), o-is, g), q-is, f), p-is, is) =
+          record {
+            c0 = a;
+            c1 = b;
+            c2 = c;
+            c3 = d;
+            c4 = e;
+            is0 = a-is;
+            is1 = b-is;
+            is2 = c-is;
+            is3 = d-is;
+            is4 = e-is;
+            nested = record { x4 = n; x3 = o; x2 = q; x1 = p; x4-is = n-is; x3-is = rw k at o-is; x2-is = rw g at q-is; x1-is = rw f at p-is; is = is };
+          }
 
 -- ---- a set
 

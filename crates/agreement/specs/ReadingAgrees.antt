@@ -1,28 +1,25 @@
 -- A reading: shown as document 01 says, or refused by the first row of its table.
-use mathlib.Core.Bool.{true, false}
+use mathlib.Core.Bool.{true}
 use mathlib.Core.List.{List, [], _++_}
 use mathlib.Core.Logic.{_⊎_, inl, inr, _↔_}
 use mathlib.Core.Option.{Option, none, some}
-use mathlib.Core.Path.{_≡_, refl, sym, ap, _∙_}
+use mathlib.Core.Path.{_≡_, refl, ap}
 use Prim.Native.Nat.{ℕ, _*_, _^_, _≤_}
-use native.Mathlib.Omega.{arith}
 use lib.Dec.{leb}
 use lib.IntN.{ℤ, pos, natAbs}
 use Rattle.paper.specs.Words.{Not}
 use Rattle.paper.specs.Table.{Row, NoneGiven, FirstGiven}
 use Rattle.paper.specs.Image.{HasKind, HasBody}
 use Rattle.paper.specs.Bodies.{SetWrong, TrimWrong}
-use Rattle.paper.specs.Reading.{Counts as PaperCounts, Frequency, Result, Mark, Untrimmed, Trimmed, Shows}
+use Rattle.paper.specs.Reading.{Counts as PaperCounts, Result, Untrimmed, Trimmed, Shows}
 use Rattle.paper.specs.Verdict.{verdictTable}
 use Rattle.paper.specs.ReadingTable.{channelTable, InSet, setTable, countsTable, readingTable}
 use Rattle.laws.specs.Cases.{decide, positive}
-use Rattle.refusals.specs.declared.Refusal.{Refusal}
 use Rattle.refusals.specs.declared.Verdict.{Verdict}
 use Rattle.refusals.specs.declared.Verdict.the-variants.{Accepted, Refused as NotAccepted}
 use Rattle.refusals.specs.Refusals.{refusal}
-use Rattle.image.specs.Layout.{layoutVerdict}
 use Rattle.image.specs.Sections.{sections}
-use Rattle.image.specs.Find.{bodyOf, orElse}
+use Rattle.image.specs.Find.{bodyOf}
 use Rattle.bodies.specs.Identity.{identityOf}
 use Rattle.bodies.specs.Trim.{trimOf}
 use Rattle.sets.specs.Set.{setOf, gridOf}
@@ -30,7 +27,6 @@ use Rattle.reading.specs.declared.Counts.{Counts}
 use Rattle.reading.specs.declared.Reading.{Reading}
 use Rattle.reading.specs.declared.Answer.{Answer}
 use Rattle.reading.specs.declared.Answer.the-variants.{Shown, Refused}
-use Rattle.reading.specs.declared.Trimming.the-variants.{Untrimmed as NoTrim, By}
 use Rattle.reading.specs.declared.value.Value.{Value}
 use Rattle.reading.specs.declared.value.Value.the-variants.{Known, Refused as NotKnown}
 use Rattle.reading.specs.Frequency.{frequencyOf}
@@ -42,7 +38,7 @@ use Rattle.agreement.specs.TableLaws.{Gives, none-append, none-before, n
 use Rattle.agreement.specs.TestsLaws.{fails-beyond}
 use Rattle.agreement.specs.FieldsAgree.{signed-same}
 use Rattle.agreement.specs.NearestLaws.{nearest-once}
-use Rattle.agreement.specs.KindsAgree.{found-is-had, had-is-found, body-once, none-had, none-found, body-there}
+use Rattle.agreement.specs.KindsAgree.{found-is-had, body-once, none-found, body-there}
 use Rattle.agreement.specs.VerdictAgrees.{verdict-gives, verdict-single, verdict-accepted-exactly, Readable, accepted-readable}
 use Rattle.agreement.specs.ValueLaws.{ValueGives}
 use Rattle.agreement.specs.FrequencyAgrees.{Counted, frequency-gives}

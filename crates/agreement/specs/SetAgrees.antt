@@ -1,33 +1,31 @@
 -- A set's result: known as document 01 says, or refused by 24, 25 or 26 where it says so.
-use mathlib.Core.Bool.{Bool, true, false, _&&_, and-false}
+use mathlib.Core.Bool.{and-false}
 use mathlib.Core.List.{List, [], _∷_}
-use mathlib.Core.Logic.{_⊎_, inl, inr, ⊎-elim}
+use mathlib.Core.Logic.{inl, inr, ⊎-elim}
 use mathlib.Core.Path.{_≡_, refl, sym, ap, _∙_}
 use Prim.Native.Nat.{ℕ, zero, suc, _+_, _-_, _*_, _^_, _≤_, _<_}
 use native.Mathlib.Omega.{arith}
 use borrow.Author.Tests.{le-leb, lt-leb, eqb-true, eqb-false}
-use lib.Dec.{leb, eqb, lit<}
-use lib.IntN.{ℤ, pos, natAbs, _-ℤ_, _*ℤ_}
+use lib.Dec.{eqb, lit<}
+use lib.IntN.{ℤ, pos, _-ℤ_, _*ℤ_}
 use lib.ListN.{length}
 use Rattle.paper.specs.Words.{Not, Beyond}
-use Rattle.paper.specs.Fields.{number, signed}
+use Rattle.paper.specs.Fields.{number}
 use Rattle.paper.specs.Table.{Row, row}
 use Rattle.paper.specs.Bodies.{pressureOrder, temperatureOrder, coefficientCount, SetWrong}
-use Rattle.paper.specs.Reading.{Sum, Prescaled, IsXP, IsXT, Coefficient, RowFrom, RowsFrom, RunningSum, Result}
+use Rattle.paper.specs.Reading.{IsXP, IsXT, Coefficient, RowFrom, RowsFrom, RunningSum, Result}
 use Rattle.paper.specs.ReadingTable.{XPBeyond, XTBeyond, SumBeyond, ResultBeyond}
 use Rattle.laws.specs.Cases.{split, decide}
-use Rattle.numbers.specs.Fields.{numberAt, signedAt}
-use Rattle.refusals.specs.Refusals.{refusal, ask}
+use Rattle.numbers.specs.Fields.{numberAt}
 use Rattle.sets.specs.Set.{setOf, gridPlace, rowFrom, rowsFrom, gridOf}
 use Rattle.reading.specs.declared.value.Value.{Value}
 use Rattle.reading.specs.declared.value.Value.the-variants.{Known, Refused}
 use Rattle.reading.specs.Value.{withValue, within}
 use Rattle.reading.specs.Frequency.{prescaledOf}
 use Rattle.reading.specs.Polynomial.{stepOf, rowSum, gridSum, setResult}
-use Rattle.agreement.specs.TestsLaws.{fails-beyond}
 use Rattle.agreement.specs.FieldsAgree.{number-same, signed-same}
 use Rattle.agreement.specs.NearestLaws.{nearest-once}
-use Rattle.agreement.specs.ValueLaws.{ValueGives, given-then, value-then, within-gives}
+use Rattle.agreement.specs.ValueLaws.{ValueGives, value-then, within-gives}
 use Rattle.agreement.specs.FrequencyAgrees.{prescaled-gives}
 use Rattle.agreement.specs.SumLaws.{sum-once, sum-as}
 use Rattle.agreement.specs.ChainLaws.{chain, zeros-chain, TermGives, ChainGives, chain-gives}

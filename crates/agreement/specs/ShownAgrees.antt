@@ -1,16 +1,15 @@
 -- Mark and trim: the definitions' are document 01's, and there is one of each.
-use mathlib.Core.Bool.{Bool, true, false, not, cond, _||_}
+use mathlib.Core.Bool.{false, not, cond}
 use mathlib.Core.List.{List}
 use mathlib.Core.Logic.{_⊎_, inl, inr, ⊎-elim}
 use mathlib.Core.Path.{_≡_, refl, sym, ap, _∙_}
-use Prim.Native.Nat.{ℕ, _+_, _*_, _^_}
+use Prim.Native.Nat.{ℕ, _^_}
 use native.Mathlib.Omega.{arith}
 use lib.Dec.{lit<}
-use lib.IntN.{ℤ, pos, _+ℤ_, _*ℤ_}
+use lib.IntN.{ℤ, pos, _*ℤ_}
 use lib.Signed.{leZ, ltZ, _≤ℤ_, _<ℤ_}
-use Rattle.paper.specs.Words.{Not}
 use Rattle.paper.specs.Fields.{number, signed}
-use Rattle.paper.specs.Image.{HasKind, HasBody}
+use Rattle.paper.specs.Image.{HasBody}
 use Rattle.paper.specs.Reading.{OutsideBit, Mark, Untrimmed, Trimmed}
 use Rattle.laws.specs.Cases.{decide, never}
 use Rattle.laws.specs.Order.{less-otherwiseℤ}
@@ -18,7 +17,7 @@ use Rattle.whole.specs.Rounded.{rounded}
 use Rattle.bodies.specs.Identity.{identityOf}
 use Rattle.bodies.specs.Trim.{trimOf}
 use Rattle.reading.specs.Measured.{outside, markOf, trimmedBy}
-use Rattle.agreement.specs.TestsLaws.{tested-less, less-tested, Fails, fails-leℤ}
+use Rattle.agreement.specs.TestsLaws.{tested-less, fails-leℤ}
 use Rattle.agreement.specs.FieldsAgree.{number-same, signed-same}
 use Rattle.agreement.specs.NearestLaws.{rounded-is-nearest, nearest-once}
 

@@ -1,9 +1,9 @@
 -- Laws of document 01's running sums: there is one, and which values it depends on.
-use mathlib.Core.Path.{_≡_, refl, sym, _∙_}
+use mathlib.Core.Path.{_≡_, sym, _∙_}
 use Prim.Native.Nat.{ℕ, zero, suc, _+_, _^_, _≤_}
 use native.Mathlib.Omega.{arith}
 use lib.Dec.{lit<}
-use lib.IntN.{ℤ, _+ℤ_, _*ℤ_}
+use lib.IntN.{ℤ, _*ℤ_}
 use Rattle.paper.specs.Reading.{Sum}
 use Rattle.agreement.specs.NearestLaws.{nearest-once}
 

@@ -1,14 +1,12 @@
 -- Laws of a table of refusals: a check is a row, checks in order are rows in order, and a table gives one answer.
-use mathlib.Core.Bool.{Bool, true, false}
 use mathlib.Core.List.{List, [], _∷_, _++_}
-use mathlib.Core.Logic.{_⊎_, inl, inr, _↔_}
-use mathlib.Core.Path.{_≡_, refl, sym, ap, _∙_}
+use mathlib.Core.Logic.{inl, inr, _↔_}
+use mathlib.Core.Path.{_≡_, refl, sym, _∙_}
 use Prim.Native.Nat.{ℕ, _≤_, _<_}
 use native.Mathlib.Omega.{arith}
 use Rattle.paper.specs.Words.{Lowest}
-use Rattle.paper.specs.Table.{Row, row, NotGiven, NoneGiven, FirstGiven}
+use Rattle.paper.specs.Table.{Row, NotGiven, NoneGiven, FirstGiven}
 use Rattle.laws.specs.Cases.{split}
-use Rattle.refusals.specs.declared.Refusal.{Refusal}
 use Rattle.refusals.specs.declared.Verdict.{Verdict}
 use Rattle.refusals.specs.declared.Verdict.the-variants.{Accepted, Refused}
 use Rattle.refusals.specs.Refusals.{refusal, andThen, result, refused, checked}

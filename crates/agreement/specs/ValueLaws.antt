@@ -1,5 +1,4 @@
 -- Laws of a number on the way to a reading: known where no row of a table is given, and else refused by the first.
-use mathlib.Core.Bool.{Bool, true, false}
 use mathlib.Core.List.{List, [], _∷_, _++_}
 use mathlib.Core.Logic.{inl, inr}
 use mathlib.Core.Path.{_≡_, refl}
@@ -15,7 +14,7 @@ use Rattle.reading.specs.declared.value.Value.{Value}
 use Rattle.reading.specs.declared.value.Value.the-variants.{Known, Refused}
 use Rattle.reading.specs.Value.{given, withValue, within}
 use Rattle.agreement.specs.TableLaws.{Judges, none-append, first-append, first-stays}
-use Rattle.agreement.specs.TestsLaws.{Fails, fails-as, fails-beyond, ask-judges}
+use Rattle.agreement.specs.TestsLaws.{fails-as, fails-beyond, ask-judges}
 
 -- the value is one of which P holds, or refused as the table says
 abbrev pub ValueGives : List Row → (P : ℤ → Type 0) → Value → Type 0

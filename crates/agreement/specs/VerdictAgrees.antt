@@ -10,7 +10,7 @@ use native.Mathlib.Omega.{arith}
 use borrow.Author.Tests.{leb-true, leb-false, eqb-true, eqb-false}
 use lib.Dec.{eqb}
 use Rattle.paper.specs.Words.{Not, Lowest}
-use Rattle.paper.specs.Table.{Row, row, NotGiven, NoneGiven, FirstGiven}
+use Rattle.paper.specs.Table.{row, NoneGiven, FirstGiven}
 use Rattle.paper.specs.Image.{HasKind, HasBody, layoutTable}
 use Rattle.paper.specs.Bodies.{IdentityWrong, SetWrong, TrimWrong, NoteWrong}
 use Rattle.paper.specs.Verdict.{IsLevel, Knows, UnknownLow, Missing, BodyWrong, sectionsTable, verdictTable}

@@ -1,7 +1,7 @@
 -- An image can be laid out anew: the builder does it, wherever sections and bytes keep to their limits; and there is one way only.
 use mathlib.Core.Bool.{true, false, cond}
 use mathlib.Core.List.{List, [], _∷_}
-use mathlib.Core.Logic.{_⊎_, inl, inr, ⊎-elim, _↔_}
+use mathlib.Core.Logic.{_⊎_, inl, inr}
 use mathlib.Core.Option.{Option, none, some}
 use mathlib.Core.Path.{_≡_, refl, sym, ap, _∙_}
 use Prim.Native.Nat.{ℕ, _+_, _*_, _≤_}
@@ -11,7 +11,7 @@ use borrow.Author.Tests.{eqb-true, eq-eqb}
 use lib.Dec.{eqb}
 use lib.ListN.{length}
 use Rattle.paper.specs.Words.{Not}
-use Rattle.paper.specs.Image.{HasKind, HasBody}
+use Rattle.paper.specs.Image.{HasBody}
 use Rattle.laws.specs.Bytes.{Bytes}
 use Rattle.laws.specs.Cases.{decide, never}
 use Rattle.refusals.specs.declared.Verdict.the-variants.{Accepted}
@@ -25,7 +25,6 @@ use Rattle.image.specs.Back.{sections-fit}
 use Rattle.builder.specs.Build.{buildImage}
 use Rattle.builder.specs.Lines.{linesOf}
 use Rattle.builder.specs.BuildLaws.{passes, lines-counted, lines-rise, lines-total, sections-again}
-use Rattle.panel.specs.Verdict.{verdictOf}
 use Rattle.agreement.specs.KindsAgree.{found-is-had, had-is-found, none-had}
 use Rattle.agreement.specs.LayoutAgrees.{layout-accepted-exactly}
 use Rattle.agreement.specs.LaidAnew.{laid-once}

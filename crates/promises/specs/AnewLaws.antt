@@ -1,6 +1,6 @@
 -- Laws of an image laid out anew: which rows of the verdict's table are given of it.
 use mathlib.Core.List.{List, [], _∷_}
-use mathlib.Core.Logic.{_⊎_, inl, inr, ⊎-elim, _↔_}
+use mathlib.Core.Logic.{_⊎_, inl, inr, ⊎-elim}
 use mathlib.Core.Path.{_≡_, refl}
 use Prim.Native.Nat.{ℕ, _+_, _≤_, _<_}
 use native.Mathlib.Omega.{arith}
@@ -12,7 +12,7 @@ use Rattle.laws.specs.Cases.{split}
 use Rattle.image.specs.Sections.{Section}
 use Rattle.agreement.specs.TableLaws.{none-append, none-after, first-append}
 use Rattle.agreement.specs.VerdictAgrees.{none-without-lowest}
-use Rattle.promises.specs.Further.{Among, HasSection, Further, LaidAnew, AllHigh, LowestLow}
+use Rattle.promises.specs.Further.{HasSection, Further, LaidAnew, AllHigh, LowestLow}
 
 -- ---- of an image that a panel accepts
 

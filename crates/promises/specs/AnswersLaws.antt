@@ -1,5 +1,5 @@
 -- From a definition to what a call answers: each function's refusals and results are document 01's.
-use mathlib.Core.Bool.{Bool, true, false, _&&_}
+use mathlib.Core.Bool.{Bool, true, _&&_}
 use mathlib.Core.List.{List, [], _∷_}
 use mathlib.Core.Logic.{inl, inr, _↔_}
 use mathlib.Core.Option.{Option, none, some}
@@ -10,7 +10,6 @@ use borrow.Author.Tests.{leb-true}
 use lib.Dec.{leb}
 use lib.ListN.{length}
 use denote.Ref.{RefT, now, ptr}
-use Rattle.paper.specs.Words.{Not}
 use Rattle.paper.specs.Table.{Row, NoneGiven, FirstGiven, Tells}
 use Rattle.paper.specs.Writer.{writerTable}
 use Rattle.paper.specs.Image.{HasKind, layoutTable}
@@ -38,7 +37,6 @@ use Rattle.image.specs.Find.{found as found-in, foundOffset, isThere, Found}
 use Rattle.builder.specs.Build.{buildImage}
 use Rattle.builder.specs.Lines.{linesGiven}
 use Rattle.finder.specs.declared.Place.{Place}
-use Rattle.finder.specs.declared.Place.the-variants.{At, Nowhere}
 use Rattle.finder.specs.Places.{placed}
 use Rattle.finder.specs.Told.{placeTold}
 use Rattle.reading.specs.declared.Counts.{Counts}

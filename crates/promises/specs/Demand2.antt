@@ -3,7 +3,7 @@
 -- none of the definitions that the code is proved by. A theorem that is proved elsewhere stands here again, so that the demand is read in
 -- one place.
 use mathlib.Core.List.{List, _∷_, _++_}
-use mathlib.Core.Logic.{_⊎_, inl, inr, ⊎-elim, _↔_}
+use mathlib.Core.Logic.{_↔_}
 use mathlib.Core.Option.{none, some}
 use mathlib.Core.Path.{_≡_}
 use Prim.Native.Nat.{ℕ, _-_, _≤_, min}
@@ -41,7 +41,6 @@ use Rattle.reading.specs.declared.Reading.{Reading}
 use Rattle.reading.specs.declared.Answer.the-variants.{Shown, Refused}
 use Rattle.panel.specs.Verdict.{verdictOf}
 use Rattle.panel.specs.Reading.{readingOf}
-use Rattle.panel.specs.Load.{loadText}
 use Rattle.hexwrite.proofs as hexwrite
 use Rattle.builder.proofs as builder
 use Rattle.agreement.specs.WriterAgrees.{write-refused-exactly, written-exactly}

@@ -1,15 +1,14 @@
 -- The third demand: an image with further sections, and the levels of panels.
-use mathlib.Core.Bool.{Bool, true, false}
 use mathlib.Core.List.{List}
 use mathlib.Core.Logic.{_⊎_, inl, inr, ⊎-elim, _↔_}
 use mathlib.Core.Path.{_≡_, refl, sym, ap, _∙_}
-use Prim.Native.Nat.{ℕ, _≤_, _<_}
+use Prim.Native.Nat.{ℕ, _<_}
 use native.Mathlib.Omega.{arith}
 use lib.IntN.{pos}
 use Rattle.paper.specs.Words.{Not, Lowest}
 use Rattle.paper.specs.Table.{NoneGiven}
-use Rattle.paper.specs.Image.{HasKind, HasBody, layoutTable}
-use Rattle.paper.specs.Verdict.{IsLevel, Knows, UnknownLow, verdictTable}
+use Rattle.paper.specs.Image.{HasKind, layoutTable}
+use Rattle.paper.specs.Verdict.{UnknownLow, verdictTable}
 use Rattle.laws.specs.Cases.{decide}
 use Rattle.refusals.specs.declared.Verdict.{Verdict}
 use Rattle.refusals.specs.declared.Verdict.the-variants.{Accepted, Refused as NotAccepted}
@@ -19,7 +18,6 @@ use Rattle.image.specs.Sections.{Section, sections}
 use Rattle.image.specs.Find.{bodyOf, isThere}
 use Rattle.reading.specs.declared.Counts.{Counts}
 use Rattle.reading.specs.declared.Reading.{Reading}
-use Rattle.reading.specs.declared.Answer.{Answer}
 use Rattle.reading.specs.declared.Answer.the-variants.{Shown, Refused}
 use Rattle.reading.specs.Told.{answerTold}
 use Rattle.panel.specs.Verdict.{verdictOf}
@@ -27,8 +25,8 @@ use Rattle.panel.specs.Reading.{sectionsReading, afterVerdict, readingOf}
 use Rattle.agreement.specs.KindsAgree.{there-passes}
 use Rattle.agreement.specs.LayoutAgrees.{layout-accepted-exactly}
 use Rattle.agreement.specs.LaidAnew.{found-same}
-use Rattle.agreement.specs.VerdictAgrees.{verdict-refused-exactly, verdict-accepted-exactly, Readable, accepted-readable}
-use Rattle.promises.specs.Further.{Among, Further, LaidAnew, AllHigh, LowestLow}
+use Rattle.agreement.specs.VerdictAgrees.{verdict-refused-exactly, verdict-accepted-exactly, accepted-readable}
+use Rattle.promises.specs.Further.{Further, LaidAnew, AllHigh, LowestLow}
 use Rattle.promises.specs.Lower.{Below}
 use Rattle.promises.specs.AnewLaws.{anew-accepted, anew-names, high-or-lowest, none-unknown, still-accepted, names-unknown}
 

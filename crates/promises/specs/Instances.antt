@@ -1,19 +1,17 @@
 -- For each theorem of the demands with hypotheses, a case that meets them: the worked image, in which every number matters.
-use mathlib.Core.Bool.{Bool, true, false, _&&_}
+use mathlib.Core.Bool.{Bool, true, _&&_}
 use mathlib.Core.List.{List, [], _∷_, _++_}
-use mathlib.Core.Logic.{_⊎_, inl, inr, ⊎-elim}
-use mathlib.Core.Option.{none, some}
+use mathlib.Core.Logic.{inl, inr, ⊎-elim}
+use mathlib.Core.Option.{none}
 use mathlib.Core.Path.{_≡_, refl, sym, ap, _∙_}
-use Prim.Native.Nat.{ℕ, _-_, _^_, _≤_, _<_}
+use Prim.Native.Nat.{ℕ, _-_, _≤_, _<_}
 use native.Mathlib.Omega.{arith}
 use borrow.Author.Tests.{ltb-true}
 use lib.Dec.{ltb}
-use lib.IntN.{pos, negℤ}
+use lib.IntN.{pos}
 use lib.ListN.{length, take, replicate}
-use lib.Seq.{take-append-seam}
 use denote.Ref.{now}
 use Rattle.paper.specs.Words.{Not}
-use Rattle.paper.specs.Image.{HasKind}
 use Rattle.paper.specs.Verdict.{Knows}
 use Rattle.laws.specs.Bytes.{Bytes}
 use Rattle.laws.specs.BytesLaws.{bytes-nil, bytes-cons}
@@ -28,7 +26,7 @@ use Rattle.hextext.specs.Written.{textOf, textLength, writeImage}
 use Rattle.hexformat.specs.RoundTrip.{is-written, text-length}
 use Rattle.image.specs.Layout.{layoutVerdict}
 use Rattle.image.specs.Sections.{Section, sections, bodiesOf, imageOf}
-use Rattle.image.specs.Find.{bodyOf, found}
+use Rattle.image.specs.Find.{bodyOf}
 use Rattle.image.specs.OrderLaws.{sections-ascend}
 use Rattle.image.specs.Back.{sections-bytes}
 use Rattle.builder.specs.Build.{buildImage}
@@ -43,7 +41,7 @@ use Rattle.hexwrite.proofs as hexwrite
 use Rattle.agreement.specs.KindsAgree.{none-found, found-is-had}
 use Rattle.agreement.specs.VerdictAgrees.{verdict-accepted-exactly, accepted-readable}
 use Rattle.promises.specs.Merged.{merged, IsKind}
-use Rattle.promises.specs.Further.{Among, HasSection, EachOnce, Further, LaidAnew, AllHigh, LowestLow}
+use Rattle.promises.specs.Further.{HasSection, EachOnce, Further, LaidAnew, AllHigh, LowestLow}
 use Rattle.promises.specs.AnewBuilt.{anew-laid, ascending-once}
 use Rattle.promises.specs.Demand1.{no-reading-after, no-reading-after-load}
 use Rattle.promises.specs.Demand3.{high-verdict, high-reading, low-verdict, low-reading, without-trim, with-trim}

@@ -1,5 +1,4 @@
 -- Of two levels, the lower one.
-use mathlib.Core.Path.{_≡_}
 use Prim.Native.Nat.{ℕ}
 use Rattle.paper.specs.Verdict.{IsLevel, Knows}
 

@@ -1,15 +1,14 @@
 -- Laws of sections with further ones among them: what they hold, and that they fit.
 use mathlib.Core.Bool.{Bool, true, false, cond, _||_}
 use mathlib.Core.List.{List, [], _∷_}
-use mathlib.Core.Logic.{_⊎_, inl, inr, ⊎-elim, ⊎-map}
 use mathlib.Core.Option.{Option, some}
 use mathlib.Core.Path.{_≡_, refl, sym, ap, _∙_}
 use Prim.Native.Nat.{ℕ, suc, _+_, _≤_, _<_}
 use native.Mathlib.Omega.{arith}
-use borrow.Author.Tests.{ltb-true, ltb-false, eqb-true, eqb-false, eq-eqb, ne-eqb}
+use borrow.Author.Tests.{ltb-true, ltb-false, eqb-true, eqb-false, eq-eqb}
 use lib.Dec.{ltb, eqb}
 use lib.ListN.{length, length-append}
-use Rattle.laws.specs.Cases.{split, decide, never}
+use Rattle.laws.specs.Cases.{decide, never}
 use Rattle.image.specs.Layout.{linePlace}
 use Rattle.image.specs.Sections.{Section, bodiesOf, Rising, Fit}
 use Rattle.image.specs.Find.{bodyOf}

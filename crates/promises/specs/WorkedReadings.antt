@@ -10,7 +10,7 @@ use Rattle.whole.specs.Rounded.{rounded}
 use Rattle.refusals.specs.declared.Verdict.the-variants.{Accepted, Refused as NotAccepted}
 use Rattle.refusals.specs.Refusals.{refusal, fieldsVerdict}
 use Rattle.image.specs.Layout.{startVerdict, countVerdict, linesVerdict, sumsVerdict, layoutVerdict}
-use Rattle.image.specs.Sections.{Section, sectionsFrom, sections}
+use Rattle.image.specs.Sections.{sectionsFrom, sections}
 use Rattle.image.specs.Find.{bodyOf}
 use Rattle.bodies.specs.Identity.{identityOf, daysIn, identityFields}
 use Rattle.sets.specs.Set.{setOf, coefficientFields, setFields, rowFrom, rowsFrom, gridOf}
