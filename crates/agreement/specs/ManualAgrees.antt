@@ -91,7 +91,13 @@ module _ (body : List ℕ) (right : Not (SetWrong body)) where
   row-by-manual : (xt : ℤ) (r : ℕ) → r ≤ pressureOrder body → (z : ℤ) → RowFrom body xt r 0 z → ManualRow body xt r z
   row-by-manual xt r h z s =
       let f = five xt (λ (p : ℕ) (d : ℤ). Coefficient body r p d) (temperatureOrder body - 0) (omega (arith, few-places body right)) z s in
-      rw (there-is r 0 (f .c0) h (f .is0), there-is r 1 (f .c1) h (f .is1), there-is r 2 (f .c2) h (f .is2), there-is r 3 (f .c3) h (f .is3), there-is r 4 (f .c4) h (f .is4))
+      rw (
+        there-is r 0 (f .c0) h (f .is0),
+        there-is r 1 (f .c1) h (f .is1),
+        there-is r 2 (f .c2) h (f .is2),
+        there-is r 3 (f .c3) h (f .is3),
+        there-is r 4 (f .c4) h (f .is4),
+      )
       at (f .nested)
 
   -- and one that it lacks
@@ -157,7 +163,9 @@ shows-by-manual level image counts reading e =
       fp-is = s .fp-is;
       ft-is = s .ft-is;
       pressure = s .pressure;
-      pressure-is = result-by-manual (s .pressureSet) (right .pressure-set-right (s .pressureSet) (s .pressureSet-is)) (s .fp) (s .ft) (s .pressure) (s .pressure-is);
+      pressure-is =
+          result-by-manual (s .pressureSet) (right .pressure-set-right (s .pressureSet) (s .pressureSet-is)) (s .fp) (s .ft) (s .pressure)
+          (s .pressure-is);
       temperature-is =
           result-by-manual (s .temperatureSet) (right .temperature-set-right (s .temperatureSet) (s .temperatureSet-is)) (s .fp) (s .ft) (reading .temperature)
           (s .temperature-is);

@@ -126,11 +126,13 @@ module _ (image : List ℕ) (counts : Counts) (right : Readable image) where
       unfolding shownBy
       shown-gives = by (bodyOf 4 (sections image)) refl
         where
-          by : (o : Option (List ℕ)) → bodyOf 4 (sections image) ≡ o → AnswerGives [] (ShowsReading image counts) (shownBy (trimmingOf o) pressure temperature mark)
+          by : (o : Option (List ℕ)) → bodyOf 4 (sections image) ≡ o
+              → AnswerGives [] (ShowsReading image counts) (shownBy (trimmingOf o) pressure temperature mark)
           by none e = (tt, shows pressure 1 (inl (record { no-trim = none-found image 4 (right .good) e; is = refl; in-psi = refl })))
           by (some trim) e =
               let has = found-is-had image 4 trim e in
-              rw (zero-near trim (right .trim-right trim has)) (tt, shows (trimmedBy (trimOf trim) pressure) (trimOf trim .unit) (inr (trim-is image pressure trim has)))
+              rw (zero-near trim (right .trim-right trim has))
+              (tt, shows (trimmedBy (trimOf trim) pressure) (trimOf trim .unit) (inr (trim-is image pressure trim has)))
 
     -- ---- a set of this image at these frequencies
 
@@ -145,7 +147,8 @@ module _ (image : List ℕ) (counts : Counts) (right : Readable image) where
         rw (same-body, same-fp, same-ft) at p
 
     set-in-image : (kind first : ℕ) → HasKind image kind → Not (SetWrong (body kind))
-        → ValueGives (setTable image paper kind first) (λ (z : ℤ). Result (body kind) fp ft z) (setResult kind first (setOf (body kind)) (gridOf (body kind)) fp ft)
+        → ValueGives (setTable image paper kind first) (λ (z : ℤ). Result (body kind) fp ft z)
+        (setResult kind first (setOf (body kind)) (gridOf (body kind)) fp ft)
     set-in-image kind first h ok = set-gives (body kind) ok fp ft kind first (InSet image paper kind) (into kind h) (out kind h)
 
   -- ---- the whole way
@@ -155,7 +158,8 @@ module _ (image : List ℕ) (counts : Counts) (right : Readable image) where
   sections-give =
       answer-then (channelTable 1 (paper .pressureNS) (paper .pressureNR)) _ (Counted 1 (paper .pressureNS) (paper .pressureNR)) (ShowsReading image counts)
       (frequencyOf 1 (paper .pressureNS) (paper .pressureNR)) _ (frequency-gives 1 (paper .pressureNS) (paper .pressureNR))
-      (λ fp fp-is. answer-then (channelTable 2 (paper .temperatureNS) (paper .temperatureNR)) _ (Counted 2 (paper .temperatureNS) (paper .temperatureNR)) (ShowsReading image counts)
+      (λ fp fp-is. answer-then (channelTable 2 (paper .temperatureNS) (paper .temperatureNR)) _
+      (Counted 2 (paper .temperatureNS) (paper .temperatureNR)) (ShowsReading image counts)
       (frequencyOf 2 (paper .temperatureNS) (paper .temperatureNR)) _ (frequency-gives 2 (paper .temperatureNS) (paper .temperatureNR))
       (λ ft ft-is. answer-then (setTable image paper 2 1) _ (λ (z : ℤ). Result (body 2) fp ft z) (ShowsReading image counts)
       (setResult 2 1 (setOf (body 2)) (gridOf (body 2)) fp ft) _
@@ -178,7 +182,8 @@ module _ (image : List ℕ) (counts : Counts) (right : Readable image) where
         result-once (t .pressureSet) (right .pressure-set-right (t .pressureSet) (t .pressureSet-is)) (t .fp) (t .ft) (s .pressure) (t .pressure)
         (rw (p-set, fp, ft) at (s .pressure-is)) (t .pressure-is) in
         let temperature : a .temperature ≡ b .temperature =
-        result-once (t .temperatureSet) (right .temperature-set-right (t .temperatureSet) (t .temperatureSet-is)) (t .fp) (t .ft) (a .temperature) (b .temperature)
+        result-once (t .temperatureSet) (right .temperature-set-right (t .temperatureSet) (t .temperatureSet-is)) (t .fp) (t .ft)
+        (a .temperature) (b .temperature)
         (rw (t-set, fp, ft) at (s .temperature-is)) (t .temperature-is) in
         let identity = once 1 (s .identity) (t .identity) (s .identity-is) (t .identity-is) in
         let mark : a .mark ≡ b .mark =

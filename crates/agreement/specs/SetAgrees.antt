@@ -44,7 +44,8 @@ grid-chain : (kind : ℕ) (xp xt : ℤ) (body : List ℕ) (left r : ℕ)
 unfolding gridSum rowsFrom chain
 grid-chain kind xp xt body zero r = refl
 grid-chain kind xp xt body (suc left) r =
-    ap (λ (v : Value). withValue v (λ sum. withValue (rowSum kind xt (rowFrom body r 5 0)) (λ c. stepOf kind xp c sum))) (grid-chain kind xp xt body left (r + 1))
+    ap (λ (v : Value). withValue v (λ sum. withValue (rowSum kind xt (rowFrom body r 5 0)) (λ c. stepOf kind xp c sum)))
+    (grid-chain kind xp xt body left (r + 1))
 
 -- ---- the grid of a right body
 
@@ -213,7 +214,8 @@ module _ (body : List ℕ) (right : Not (SetWrong body)) where
 
         rows-give : ValueGives (row25 ∷ row26 ∷ []) IsResult (withValue (gridSum kind xp xt (gridOf body)) (λ sum. within (2 ^ 31) 26 kind sum))
         rows-give =
-            value-then (row25 ∷ []) (row26 ∷ []) (λ (z : ℤ). RowsFrom body xp xt 0 z) IsResult (gridSum kind xp xt (gridOf body)) (λ sum. within (2 ^ 31) 26 kind sum)
+            value-then (row25 ∷ []) (row26 ∷ []) (λ (z : ℤ). RowsFrom body xp xt 0 z) IsResult (gridSum kind xp xt (gridOf body))
+            (λ sum. within (2 ^ 31) 26 kind sum)
             (sum-gives kind xp xt
             (λ (z, run, b). into SumBeyond (xp, xt, z, xp-is, xt-is, run, b))
             (λ c. let w = out SumBeyond c in (w .2, running-same (w .0) (w .1) xp xt (w .3) (w .4) xp-is xt-is (w .2) (w .5), w .6)))
@@ -228,9 +230,12 @@ module _ (body : List ℕ) (right : Not (SetWrong body)) where
       pub set-gives : ValueGives (row24P ∷ row24T ∷ row25 ∷ row26 ∷ []) IsResult (setResult kind first (setOf body) (gridOf body) fp ft)
       unfolding setOf setResult
       set-gives =
-          value-then (row24P ∷ []) (row24T ∷ row25 ∷ row26 ∷ []) (λ (x : ℤ). IsXP body fp x) IsResult (prescaledOf first (setOf body .pressure) fp) (λ xp. fromXP xp)
-          (rw number-same (prescaled-gives first (numberAt 1 body 2) (numberAt 4 body 4) (numberAt 8 body 8) fp (rw number-same at (into XPBeyond)) (rw number-same at (out XPBeyond))))
+          value-then (row24P ∷ []) (row24T ∷ row25 ∷ row26 ∷ []) (λ (x : ℤ). IsXP body fp x) IsResult (prescaledOf first (setOf body .pressure) fp)
+          (λ xp. fromXP xp)
+          (rw number-same (prescaled-gives first (numberAt 1 body 2) (numberAt 4 body 4) (numberAt 8 body 8) fp
+          (rw number-same at (into XPBeyond)) (rw number-same at (out XPBeyond))))
           (λ xp xp-is. value-then (row24T ∷ []) (row25 ∷ row26 ∷ []) (λ (x : ℤ). IsXT body ft x) IsResult
           (prescaledOf (first + 1) (setOf body .temperature) ft) (λ xt. fromXT xp xt)
-          (rw number-same (prescaled-gives (first + 1) (numberAt 1 body 3) (numberAt 4 body 16) (numberAt 8 body 20) ft (rw number-same at (into XTBeyond)) (rw number-same at (out XTBeyond))))
+          (rw number-same (prescaled-gives (first + 1) (numberAt 1 body 3) (numberAt 4 body 16) (numberAt 8 body 20) ft
+          (rw number-same at (into XTBeyond)) (rw number-same at (out XTBeyond))))
           (λ xt xt-is. rows-give xp xt xp-is xt-is))

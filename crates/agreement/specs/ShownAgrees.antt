@@ -60,7 +60,7 @@ module _ (identity : List ℕ) (pressure temperature : ℤ) where
 
   pub mark-once : (m n : ℕ) → Mark identity pressure temperature m → Mark identity pressure temperature n → m ≡ n
   mark-once m n a b =
-      let t = bit-once temperature (signed 4 identity 8) (signed 4 identity 12) (a .temperatureBit) (b .temperatureBit) (a .temperature-is) (b .temperature-is) in
+      let t = bit-once temperature (signed 4 identity 8) (signed 4 identity 12) _ _ (a .temperature-is) (b .temperature-is) in
       let p = bit-once pressure (signed 4 identity 16) (signed 4 identity 20) (a .pressureBit) (b .pressureBit) (a .pressure-is) (b .pressure-is) in
       omega (arith, a .is, b .is)
 
@@ -91,5 +91,5 @@ module _ (image : List ℕ) (pressure : ℤ) where
     shown-once y z u v (inr a) (inl b) = absurd (b .no-trim (a .has .has))
     shown-once y z u v (inr a) (inr b) =
         let same = body-once (a .trim) (b .trim) (a .has) (b .has) in
-        let product = nearest-once (pos (number 4 (b .trim) 4) *ℤ pressure) (2 ^ 28) (lit< tt) (a .product) (b .product) (rw same at (a .product-is)) (b .product-is) in
+        let product = nearest-once (pos (number 4 (b .trim) 4) *ℤ pressure) (2 ^ 28) (lit< tt) _ _ (rw same at (a .product-is)) (b .product-is) in
         (a .is ∙ rw (same, product) (sym (b .is)), a .named ∙ rw same (sym (b .named)))

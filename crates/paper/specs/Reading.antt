@@ -103,7 +103,8 @@ module _ (image : List ℕ) (pressure shown : ℤ) (unit : ℕ) where
 -- ---- what is shown
 
 -- each set's result being as `IsResult` says
-pub record ShowsBy (IsResult : (body : List ℕ) → (fp ft z : ℤ) → Type 0) (image : List ℕ) (counts : Counts) (shownPressure shownTemperature : ℤ) (unit mark : ℕ) : Type 0 where
+pub record ShowsBy (IsResult : (body : List ℕ) → (fp ft z : ℤ) → Type 0) (image : List ℕ) (counts : Counts)
+    (shownPressure shownTemperature : ℤ) (unit mark : ℕ) : Type 0 where
   pub identity : List ℕ
   pub pressureSet : List ℕ
   pub temperatureSet : List ℕ

@@ -132,7 +132,8 @@ module _ (level : ℕ) (image : List ℕ) (further : List Section) (bytes : Byte
 
   -- by the builder, in any buffer that has room for it,
   pub anew-built : (size : ℕ) → length (imageOf (merged (sections image) further)) ≤ size
-      → buildImage size (linesOf (merged (sections image) further)) (bodiesOf (merged (sections image) further)) ≡ result (imageOf (merged (sections image) further))
+      → buildImage size (linesOf (merged (sections image) further)) (bodiesOf (merged (sections image) further))
+      ≡ result (imageOf (merged (sections image) further))
   unfolding buildImage
   anew-built size enough =
       rw (
@@ -149,8 +150,8 @@ module _ (level : ℕ) (image : List ℕ) (further : List Section) (bytes : Byte
       )
 
 -- and in one way only: any two images of bytes that are laid out anew so are the same, byte for byte.
-pub anew-once : (image : List ℕ) (further : List Section) (one other : List ℕ) → Bytes one → Bytes other → LaidAnew image further one → LaidAnew image further other
-    → one ≡ other
+pub anew-once : (image : List ℕ) (further : List Section) (one other : List ℕ) → Bytes one → Bytes other
+    → LaidAnew image further one → LaidAnew image further other → one ≡ other
 anew-once image further one other b b′ l l′ =
     laid-once one other b b′ (l .good) (l′ .good)
     (λ kind body. (λ h. l′ .has kind body .1 (l .has kind body .0 h), λ h. l .has kind body .1 (l′ .has kind body .0 h)))

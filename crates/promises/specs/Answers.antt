@@ -60,8 +60,8 @@ AnswersLoad level text before = Fills (LoadRefused level text before) (Loaded le
 
 -- a kind found: yes and where its body stands, or no and the empty part at the image's start
 pub data AnswersFind (image : List ℕ) (kind : ℕ) (there : Bool) (offset size : ℕ) : Type 0 where
-  found : there ≡ true → NoneGiven (layoutTable image) → (body : List ℕ) → HasBody image kind body → (h : HasKind image kind) → offset ≡ offsetOf image (h .line)
-      → size ≡ length body → AnswersFind image kind there offset size
+  found : there ≡ true → NoneGiven (layoutTable image) → (body : List ℕ) → HasBody image kind body → (h : HasKind image kind)
+      → offset ≡ offsetOf image (h .line) → size ≡ length body → AnswersFind image kind there offset size
   absent : there ≡ false → Not (NoneGiven (layoutTable image) × HasKind image kind) → offset ≡ 0 → size ≡ 0 → AnswersFind image kind there offset size
 
 -- the body itself, as a part of the caller's image, or the empty part at the image's start

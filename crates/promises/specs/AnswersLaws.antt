@@ -74,7 +74,8 @@ verdict-tells rows e (NotAccepted r) g = inl (first-numbered rows e (r .number) 
 module _ (o : Outcome) {R : (number detail : ℕ) → Type 0} {P : List ℕ → Type 0}
     (refuses : (r : Refusal) → o ≡ is-refused r → (1 ≤ r .number) × R (r .number) (r .detail)) (results : (x : List ℕ) → o ≡ result x → P x)
     (before after : List ℕ) where
-  pub fills-answer : (answer : Filled) → FillsBuffer o before answer after → Fills R P before (filledNumber answer) (filledDetail answer) (filledLength answer) after
+  pub fills-answer : (answer : Filled) → FillsBuffer o before answer after
+      → Fills R P before (filledNumber answer) (filledDetail answer) (filledLength answer) after
   fills-answer answer f = by o refl
     where
       by : (p : Outcome) → o ≡ p → Fills R P before (filledNumber answer) (filledDetail answer) (filledLength answer) after

@@ -76,7 +76,9 @@ bjorkneve-read-answers call r b learnt =
 
 -- A load answers the image that the text says and the panel accepts, or the text's refusal, or the panel's on that image.
 pub load-answers : EveryCall panel.load.ended panel.load.Reads.Learnt
-    (λ call r b. AnswersLoad (call .arguments .1 .0) (now (call .arguments .0)) (now (call .arguments .1 .1 .0)) (filledNumber r) (filledDetail r) (filledLength r) (b .1 .1 .0))
+    (λ call r b.
+    AnswersLoad (call .arguments .1 .0) (now (call .arguments .0)) (now (call .arguments .1 .1 .0))
+    (filledNumber r) (filledDetail r) (filledLength r) (b .1 .1 .0))
 load-answers call r b learnt =
     let text = now (call .arguments .0) in
     let level = call .arguments .1 .0 in
@@ -84,7 +86,9 @@ load-answers call r b learnt =
     fills-answer (loadText level (length before) text) (load-refuses level text before) (load-results level text before) before (b .1 .1 .0) r learnt
 
 pub bjorkneve-load-answers : EveryCall bjorkneve.bjorkneve_load.ended bjorkneve.bjorkneve_load.Reads.Learnt
-    (λ call r b. AnswersLoad (call .arguments .1 .0) (now (call .arguments .0)) (now (call .arguments .1 .1 .0)) (r .number) (r .detail) (r .length) (b .1 .1 .0))
+    (λ call r b.
+    AnswersLoad (call .arguments .1 .0) (now (call .arguments .0)) (now (call .arguments .1 .1 .0))
+    (r .number) (r .detail) (r .length) (b .1 .1 .0))
 bjorkneve-load-answers call r b learnt =
     let text = now (call .arguments .0) in
     let level = call .arguments .1 .0 in
@@ -260,7 +264,8 @@ module _ (outcome : Outcome) (before after : List ℕ) (r : Refusal) (fills : Fi
       (zeros-refused (take n (drop start (replicate (length before) 0))) (part-starts (length before) start n) level counts)
 
 -- So a panel whose load was refused has no reading, whatever was loaded before.
-pub no-reading-after-load : (level : ℕ) (text before after : List ℕ) (r : Refusal) → FillsBuffer (loadText level (length before) text) before (NotFilled r) after
+pub no-reading-after-load : (level : ℕ) (text before after : List ℕ) (r : Refusal)
+    → FillsBuffer (loadText level (length before) text) before (NotFilled r) after
     → (panel : ℕ) (counts : Counts) → readingOf panel after counts ≡ Refused (cond (isLevel panel) (refusal 5 0) (refusal 20 0))
 no-reading-after-load level text before after r fills panel counts =
     rw (take-length after) at (no-reading-after (loadText level (length before) text) before after r fills panel 0 (length after) counts)

@@ -71,7 +71,8 @@ module _ (level : ℕ) (image : List ℕ) (further : List Section) (anew : List 
 
   -- If all are 128 or above, C gets the same numbers as before.
   pub high-told : AllHigh further → (counts : Counts)
-      → (verdictTold (verdictOf level anew) ≡ verdictTold (verdictOf level image)) × (answerTold (readingOf level anew counts) ≡ answerTold (readingOf level image counts))
+      → (verdictTold (verdictOf level anew) ≡ verdictTold (verdictOf level image))
+      × (answerTold (readingOf level anew counts) ≡ answerTold (readingOf level image counts))
   high-told high counts = (ap verdictTold (high-verdict high), ap answerTold (high-reading high counts))
 
 -- There is no third case: all new kinds are 128 or above, or there is a lowest below 128.
@@ -163,6 +164,7 @@ module _ (image : List ℕ) (counts : Counts) (reading : Reading) (shown : readi
 
   -- In the numbers that C gets: the same as level 2's, or 9, 4 and every value 0.
   pub levels-told : (answerTold (readingOf 1 image counts) ≡ answerTold (readingOf 2 image counts))
-      ⊎ (HasKind image 4 × (answerTold (readingOf 1 image counts) ≡ record { number = 9; detail = 4; pressure = pos 0; temperature = pos 0; unit = 0; mark = 0 }))
+      ⊎ (HasKind image 4
+      × (answerTold (readingOf 1 image counts) ≡ record { number = 9; detail = 4; pressure = pos 0; temperature = pos 0; unit = 0; mark = 0 }))
   levels-told =
       ⊎-elim (λ there. inr (there, ap answerTold (with-trim there))) (λ absent. inl (ap answerTold (without-trim absent ∙ sym shown))) trim-there

@@ -142,7 +142,8 @@ anewHigh = imageOf (merged (sections untrimmedImage) highSections)
 anew-high : LaidAnew untrimmedImage highSections anewHigh
 unfolding bodiesOf
 anew-high =
-    anew-laid 2 untrimmedImage highSections untrimmed-bytes further-high once-high kinds-high (rw untrimmed-sections (omega arith)) (rw untrimmed-sections (omega arith))
+    anew-laid 2 untrimmedImage highSections untrimmed-bytes further-high once-high kinds-high
+    (rw untrimmed-sections (omega arith)) (rw untrimmed-sections (omega arith))
 
 -- kinds 200 and 130 are passed over, and the reading is the same
 pub high-met : verdictOf 2 anewHigh ≡ Accepted
@@ -188,7 +189,8 @@ anewMixed = imageOf (merged (sections untrimmedImage) mixedSections)
 anew-mixed : LaidAnew untrimmedImage mixedSections anewMixed
 unfolding bodiesOf
 anew-mixed =
-    anew-laid 2 untrimmedImage mixedSections untrimmed-bytes further-mixed once-mixed kinds-mixed (rw untrimmed-sections (omega arith)) (rw untrimmed-sections (omega arith))
+    anew-laid 2 untrimmedImage mixedSections untrimmed-bytes further-mixed once-mixed kinds-mixed
+    (rw untrimmed-sections (omega arith)) (rw untrimmed-sections (omega arith))
 
 lowest-five : LowestLow mixedSections 5
 lowest-five = (((3 ∷ [], inr (inr (inl (refl, refl)))), omega arith), above)
@@ -210,7 +212,8 @@ low-reading-met = low-reading 2 untrimmedImage mixedSections anewMixed further-m
 pub without-trim-met : readingOf 1 untrimmedImage insideCounts ≡ Shown (record { pressure = pos 311201430; temperature = pos 4830423; unit = 1; mark = 0 })
 unfolding bodyOf
 without-trim-met =
-    without-trim untrimmedImage insideCounts _ (untrimmed-at-2 insideCounts ∙ inside-untrimmed) (none-found untrimmedImage 4 untrimmed-good (rw untrimmed-sections))
+    without-trim untrimmedImage insideCounts _ (untrimmed-at-2 insideCounts ∙ inside-untrimmed)
+    (none-found untrimmedImage 4 untrimmed-good (rw untrimmed-sections))
 
 -- with kind 4 level 1 refuses
 pub with-trim-met : readingOf 1 workedImage insideCounts ≡ Refused (refusal 9 4)
@@ -233,7 +236,8 @@ imageBuffer = workedImage ++ replicate (4096 - 248) 0
 
 worked-built : Fills (buildImage 4096 (linesOf workedSections) (bodiesOf workedSections)) buffer (Length 248) imageBuffer
 worked-built =
-    let made : buildImage 4096 (linesOf workedSections) (bodiesOf workedSections) ≡ result workedImage = good-built 4096 workedImage worked-bytes worked-good (omega arith) in
+    let made : buildImage 4096 (linesOf workedSections) (bodiesOf workedSections) ≡ result workedImage =
+    good-built 4096 workedImage worked-bytes worked-good (omega arith) in
     rw made (record { answers = refl; holds = refl })
 
 -- the text has 15 full records of 44 characters, one of 8 bytes with 28, and the end with 12
@@ -248,8 +252,9 @@ worked-written =
 
 pub worked-loads : answerTo (loadText 2 4096 (take 700 textBuffer)) ≡ Length 248
 worked-loads =
-    whole-loads 2 workedSections once-worked buffer imageBuffer (replicate 1000 7) textBuffer buffer (heldAfter 4096 (loadText 2 4096 (take 700 textBuffer))) 248 700
-    (answerTo (loadText 2 4096 (take 700 textBuffer))) (sections-bytes workedImage worked-bytes worked-good) worked-built worked-accepted worked-written (omega arith)
+    let outcome = loadText 2 4096 (take 700 textBuffer) in
+    whole-loads 2 workedSections once-worked buffer imageBuffer (replicate 1000 7) textBuffer buffer (heldAfter 4096 outcome) 248 700
+    (answerTo outcome) (sections-bytes workedImage worked-bytes worked-good) worked-built worked-accepted worked-written (omega arith)
     (record { answers = refl; holds = refl })
   where
     once-worked : EachOnce workedSections

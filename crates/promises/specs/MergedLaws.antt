@@ -32,7 +32,8 @@ holds-inserted kind x [] = holds-more kind x []
 holds-inserted kind x (s ∷ ss) =
     decide (ltb (x .kind) (s .kind))
     (λ e. rw e (holds-more kind x (s ∷ ss)))
-    (λ e. rw (e, holds-more kind s (inserted x ss), holds-inserted kind x ss, holds-more kind s ss) (either-order (eqb kind (s .kind)) (eqb kind (x .kind)) (holds kind ss)))
+    (λ e. rw (e, holds-more kind s (inserted x ss), holds-inserted kind x ss, holds-more kind s ss)
+    (either-order (eqb kind (s .kind)) (eqb kind (x .kind)) (holds kind ss)))
 
 apart : (a b c : Bool) → (a || (b || c)) ≡ ((a || b) || c)
 apart true b c = refl
