@@ -1,20 +1,23 @@
 -- Document 01's sums are the nested polynomial that the maker's manual prints.
 use mathlib.Core.Bool.{and-false}
-use mathlib.Core.List.{List}
+use mathlib.Core.List.{List, []}
 use mathlib.Core.Logic.{_⊎_, inl, inr}
-use mathlib.Core.Path.{_≡_, refl, sym}
+use mathlib.Core.Path.{_≡_, refl, sym, _∙_}
 use Prim.Native.Nat.{ℕ, zero, suc, _+_, _-_, _^_, _≤_, _<_}
-use native.Mathlib.Nat.{zero-add, suc-add}
+use native.Mathlib.Nat.{add-zero, zero-add, suc-add}
 use native.Mathlib.Omega.{arith}
 use borrow.Author.Tests.{le-leb, lt-leb}
 use lib.Dec.{leb, lit<}
 use lib.IntN.{ℤ, pos, _*ℤ_, +ℤ-idr}
+use lib.ListN.{getD}
 use Rattle.paper.specs.Words.{Not, Nearest}
 use Rattle.paper.specs.Bodies.{pressureOrder, temperatureOrder, SetWrong}
 use Rattle.paper.specs.Verdict.{verdictTable}
 use Rattle.paper.specs.Reading.{Sum, Coefficient, RowFrom, Result}
 use Rattle.paper.specs.ReadingTable.{countsTable}
 use Rattle.paper.specs.Manual.{Nested, coefficient, ManualRow, ManualResult, ShowsByManual}
+use Rattle.laws.specs.Cases.{split}
+use Rattle.sets.specs.Set.{gridPlace, rowFrom, rowsFrom, gridOf}
 use Rattle.reading.specs.declared.Counts.{Counts}
 use Rattle.reading.specs.declared.Reading.{Reading}
 use Rattle.reading.specs.declared.Answer.the-variants.{Shown}
@@ -23,7 +26,7 @@ use Rattle.panel.specs.Reading.{readingOf}
 use Rattle.agreement.specs.NearestLaws.{rounded-is-nearest}
 use Rattle.agreement.specs.TableLaws.{none-before}
 use Rattle.agreement.specs.VerdictAgrees.{verdict-accepted-exactly, accepted-readable}
-use Rattle.agreement.specs.SetAgrees.{few-rows, few-places}
+use Rattle.agreement.specs.SetAgrees.{few-rows, few-places, place-there, place-absent, row-absent}
 use Rattle.agreement.specs.ReadingAgrees.{onPaper, reading-shown-exactly}
 
 -- ---- a sum of at most five terms, with zeros for the others
@@ -115,6 +118,32 @@ module _ (body : List ℕ) (right : Not (SetWrong body)) where
         x1-is = nothing xt;
         is = refl;
       })
+
+  -- the grid that the code fills
+  place-by-manual : (r i : ℕ) → gridPlace body r i ≡ coefficient body r i
+  place-by-manual r i =
+      split r (pressureOrder body)
+      (λ h.
+      split i (temperatureOrder body)
+      (λ k. rw (le-leb r (pressureOrder body) h, le-leb i (temperatureOrder body) k) (place-there body right r i h k))
+      (λ k. rw (lt-leb i (temperatureOrder body) k, and-false (leb r (pressureOrder body))) (place-absent body right r i k)))
+      (λ h. rw (lt-leb r (pressureOrder body) h) (row-absent body right r i h))
+
+  row-at : (r left from i : ℕ) → i < left → getD (rowFrom body r left from) i (pos 0) ≡ gridPlace body r (from + i)
+  unfolding rowFrom
+  row-at r zero from i h = absurd (omega arith)
+  row-at r (suc left) from zero h = rw (add-zero from)
+  row-at r (suc left) from (suc i) h = let next : from + 1 + i ≡ from + suc i = omega arith in rw next at (row-at r left (from + 1) i (omega arith))
+
+  rows-at : (left from r : ℕ) → r < left → getD (rowsFrom body left from) r [] ≡ rowFrom body (from + r) 5 0
+  unfolding rowsFrom
+  rows-at zero from r h = absurd (omega arith)
+  rows-at (suc left) from zero h = rw (add-zero from)
+  rows-at (suc left) from (suc r) h = let next : from + 1 + r ≡ from + suc r = omega arith in rw next at (rows-at left (from + 1) r (omega arith))
+
+  pub grid-by-manual : (r i : ℕ) → r < 5 → i < 5 → getD (getD (gridOf body) r []) i (pos 0) ≡ coefficient body r i
+  grid-by-manual r i h k =
+      rw (rows-at 5 0 r h, zero-add r) (row-at r 5 0 i k ∙ rw (zero-add i) (place-by-manual r i))
 
   pub result-by-manual : (fp ft z : ℤ) → Result body fp ft z → ManualResult body fp ft z
   result-by-manual fp ft z s =

@@ -61,7 +61,7 @@ module _ (body : List ℕ) (right : Not (SetWrong body)) where
       let all = 28 + 8 * coefficientCount body in
       decide (eqb (length body) all) (λ e. eqb-true (length body) all e) (λ e. absurd (right (inr (inr (inr (inr (inl (eqb-false (length body) all e))))))))
 
-  place-there : (r place : ℕ) → r ≤ pressureOrder body → place ≤ temperatureOrder body → Coefficient body r place (gridPlace body r place)
+  pub place-there : (r place : ℕ) → r ≤ pressureOrder body → place ≤ temperatureOrder body → Coefficient body r place (gridPlace body r place)
   place-there r place h k =
       let all : 28 + 8 * coefficientCount body ≤ length body = omega (arith, long) in
       rw (
@@ -72,10 +72,10 @@ module _ (body : List ℕ) (right : Not (SetWrong body)) where
         le-leb place (numberAt 1 body 3) (rw number-same at k),
       )
 
-  place-absent : (r place : ℕ) → temperatureOrder body < place → gridPlace body r place ≡ pos 0
+  pub place-absent : (r place : ℕ) → temperatureOrder body < place → gridPlace body r place ≡ pos 0
   place-absent r place h = rw (lt-leb place (numberAt 1 body 3) (rw number-same at h), and-false _)
 
-  row-absent : (r place : ℕ) → pressureOrder body < r → gridPlace body r place ≡ pos 0
+  pub row-absent : (r place : ℕ) → pressureOrder body < r → gridPlace body r place ≡ pos 0
   row-absent r place h = rw (lt-leb r (numberAt 1 body 2) (rw number-same at h), and-false _)
 
   module _ (kind : ℕ) (xp xt : ℤ) where

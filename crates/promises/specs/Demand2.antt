@@ -2,26 +2,29 @@
 -- Each theorem goes both ways. What stands to the right of ↔ is document 01 as a relation (crates paper and hexformat), which cites
 -- none of the definitions that the code is proved by. A theorem that is proved elsewhere stands here again, so that the demand is read in
 -- one place.
-use mathlib.Core.List.{List, _∷_, _++_}
+use mathlib.Core.List.{List, [], _∷_, _++_}
 use mathlib.Core.Logic.{_↔_}
 use mathlib.Core.Option.{none, some}
-use mathlib.Core.Path.{_≡_}
-use Prim.Native.Nat.{ℕ, _-_, _≤_, min}
-use lib.ListN.{length, take, replicate}
+use mathlib.Core.Path.{_≡_, refl}
+use Prim.Native.Nat.{ℕ, _-_, _≤_, _<_, min}
+use lib.IntN.{pos}
+use lib.ListN.{length, take, getD, replicate}
 use denote.Ref.{now}
 use Rattle.paper.specs.Words.{Not}
+use Rattle.paper.specs.Fields.{number, signed}
 use Rattle.paper.specs.Table.{NoneGiven, FirstGiven}
 use Rattle.paper.specs.Writer.{writerTable}
 use Rattle.paper.specs.Image.{offsetOf, HasKind, HasBody, layoutTable}
+use Rattle.paper.specs.Bodies.{SetWrong}
 use Rattle.paper.specs.Verdict.{verdictTable}
 use Rattle.paper.specs.Builder.{builderTable, IsImageOf}
 use Rattle.paper.specs.ReadingTable.{readingTable}
-use Rattle.paper.specs.Manual.{ShowsByManual}
+use Rattle.paper.specs.Manual.{coefficient, ShowsByManual}
 use Rattle.refusals.specs.declared.Verdict.the-variants.{Accepted, Refused as NotAccepted}
 use Rattle.refusals.specs.declared.Filled.{Filled}
 use Rattle.refusals.specs.declared.Filled.the-variants.{Length}
 use Rattle.refusals.specs.Refusals.{result, refused, refusal, Fills}
-use Rattle.calls.specs.Call.{Call, shared, next}
+use Rattle.calls.specs.Call.{Call, shared, next, EveryCall}
 use Rattle.calls.specs.CallLaws.{lent-bytes}
 use Rattle.hextext.specs.Text.{readText}
 use Rattle.hextext.specs.Written.{textOf, writeImage}
@@ -36,6 +39,9 @@ use Rattle.image.specs.Layout.{layoutVerdict}
 use Rattle.image.specs.Find.{found, foundOffset}
 use Rattle.builder.specs.Build.{buildImage}
 use Rattle.builder.specs.Lines.{linesGiven}
+use Rattle.sets.specs.Set.{setOf}
+use Rattle.bodies.specs.Identity.{identityOf}
+use Rattle.bodies.specs.Trim.{trimOf}
 use Rattle.reading.specs.declared.Counts.{Counts}
 use Rattle.reading.specs.declared.Reading.{Reading}
 use Rattle.reading.specs.declared.Answer.the-variants.{Shown, Refused}
@@ -43,13 +49,16 @@ use Rattle.panel.specs.Verdict.{verdictOf}
 use Rattle.panel.specs.Reading.{readingOf}
 use Rattle.hexwrite.proofs as hexwrite
 use Rattle.builder.proofs as builder
+use Rattle.sets.proofs as sets
+use Rattle.bodies.proofs as bodies
+use Rattle.agreement.specs.FieldsAgree.{number-same, signed-same}
 use Rattle.agreement.specs.WriterAgrees.{write-refused-exactly, written-exactly}
 use Rattle.agreement.specs.LayoutAgrees.{layout-refused-exactly, layout-accepted-exactly}
 use Rattle.agreement.specs.FinderAgrees.{found-exactly, absent-exactly, offset-exactly}
 use Rattle.agreement.specs.BuilderAgrees.{build-refused-exactly, built-exactly}
 use Rattle.agreement.specs.VerdictAgrees.{verdict-refused-exactly, verdict-accepted-exactly}
 use Rattle.agreement.specs.ReadingAgrees.{onPaper, ShowsReading, reading-refused-exactly, reading-shown-exactly}
-use Rattle.agreement.specs.ManualAgrees.{shows-by-manual}
+use Rattle.agreement.specs.ManualAgrees.{grid-by-manual, shows-by-manual}
 
 -- ---- the HEX reader
 
@@ -166,3 +175,36 @@ reading-shown = reading-shown-exactly
 pub reading-by-manual : (level : ℕ) (image : List ℕ) (counts : Counts) (reading : Reading) → readingOf level image counts ≡ Shown reading
     → ShowsByManual image (onPaper counts) (reading .pressure) (reading .temperature) (reading .unit) (reading .mark)
 reading-by-manual = shows-by-manual
+
+-- ---- what a body says
+
+-- An identity's fields, a trim's, a set's and its coefficients are read at the places that document 01 names.
+pub identity-read : EveryCall bodies.read_identity.ended bodies.read_identity.Reads.Learnt
+    (λ call r b.
+    let body = now (call .arguments .0) in
+    (r .serial ≡ number 4 body 0) × (r .year ≡ number 2 body 4) × (r .month ≡ number 1 body 6) × (r .day ≡ number 1 body 7)
+    × (r .tmin ≡ signed 4 body 8) × (r .tmax ≡ signed 4 body 12) × (r .pmin ≡ signed 4 body 16) × (r .pmax ≡ signed 4 body 20))
+unfolding identityOf
+identity-read call r b learnt = rw (learnt, number-same, signed-same) (refl, refl, refl, refl, refl, refl, refl, refl)
+
+pub trim-read : EveryCall bodies.read_trim.ended bodies.read_trim.Reads.Learnt
+    (λ call r b.
+    let body = now (call .arguments .0) in
+    (r .unit ≡ number 1 body 0) × (r .span ≡ number 4 body 4) × (r .zero ≡ signed 8 body 8))
+unfolding trimOf
+trim-read call r b learnt = rw (learnt, number-same, signed-same) (refl, refl, refl)
+
+pub set-read : EveryCall sets.read_set.ended sets.read_set.Reads.Learnt
+    (λ call r b.
+    let body = now (call .arguments .0) in
+    (r .pressure .order ≡ number 1 body 2) × (r .pressure .multiplier ≡ number 4 body 4) × (r .pressure .offset ≡ number 8 body 8)
+    × (r .temperature .order ≡ number 1 body 3) × (r .temperature .multiplier ≡ number 4 body 16) × (r .temperature .offset ≡ number 8 body 20))
+unfolding setOf
+set-read call r b learnt = rw (learnt, number-same) (refl, refl, refl, refl, refl, refl)
+
+-- row r is A0, A1, .. or B0, B1, ..; absent places are 0
+pub grid-read : EveryCall sets.read_grid.ended sets.read_grid.Reads.Learnt
+    (λ call r b.
+    let body = now (call .arguments .0) in
+    Not (SetWrong body) → (row place : ℕ) → row < 5 → place < 5 → getD (getD r row []) place (pos 0) ≡ coefficient body row place)
+grid-read call r b learnt right row place h k = rw learnt (grid-by-manual (now (call .arguments .0)) right row place h k)
