@@ -2,7 +2,7 @@
 """A calibration image in which every number matters, and its readings, worked out after document 01 alone in whole numbers.
 
 Usage: python3 examples/worked.py WORD, which prints
-    image      the bytes as antt lists, as they stand in crates/promises/specs/WorkedImage.antt
+    image      the bytes as antt lists, as they stand in crates/paper/specs/WorkedImage.antt
     readings   the readings as theorems, as they stand in crates/promises/specs/WorkedReadings.antt
     steps      the first reading and document 01's polynomial example step by step, as in docs/WORKED.md
     table      all readings, as in docs/WORKED.md

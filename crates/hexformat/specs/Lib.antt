@@ -18,3 +18,4 @@ pub mod SumLaws
 pub mod PartLaws
 pub mod CharacterLaws
 pub mod LineLaws
+pub mod ComputedBytes

@@ -9,3 +9,4 @@ pub mod Builder
 pub mod Reading
 pub mod Manual
 pub mod ReadingTable
+pub mod WorkedImage

@@ -6,16 +6,12 @@ use mathlib.Core.Option.{none}
 use mathlib.Core.Path.{_≡_, refl, sym, ap, _∙_}
 use Prim.Native.Nat.{ℕ, _-_, _≤_, _<_}
 use native.Mathlib.Omega.{arith}
-use borrow.Author.Tests.{ltb-true}
-use lib.Dec.{ltb}
 use lib.IntN.{pos}
 use lib.ListN.{length, take, replicate}
 use denote.Ref.{now}
 use Rattle.paper.specs.Words.{Not}
 use Rattle.paper.specs.Verdict.{Knows}
 use Rattle.laws.specs.Bytes.{Bytes}
-use Rattle.laws.specs.BytesLaws.{bytes-nil, bytes-cons}
-use Rattle.laws.specs.Cases.{both-left, both-right}
 use Rattle.refusals.specs.declared.Verdict.the-variants.{Accepted, Refused as NotAccepted}
 use Rattle.refusals.specs.declared.Filled.the-variants.{Length, Refused as NotFilled}
 use Rattle.refusals.specs.Refusals.{result, answerTo, heldAfter, refusal, Fills}
@@ -23,6 +19,7 @@ use Rattle.calls.specs.Call.{Call}
 use Rattle.calls.specs.LendLaws.{lendable}
 use Rattle.hextext.specs.Text.{reading as readingText, readText}
 use Rattle.hextext.specs.Written.{textOf, textLength, writeImage}
+use Rattle.hexformat.specs.ComputedBytes.{computed-bytes}
 use Rattle.hexformat.specs.RoundTrip.{is-written, text-length}
 use Rattle.image.specs.Layout.{layoutVerdict}
 use Rattle.image.specs.Sections.{Section, sections, bodiesOf, imageOf}
@@ -46,21 +43,13 @@ use Rattle.promises.specs.AnewBuilt.{anew-laid, ascending-once}
 use Rattle.promises.specs.Demand1.{no-reading-after, no-reading-after-load}
 use Rattle.promises.specs.Demand3.{high-verdict, high-reading, low-verdict, low-reading, without-trim, with-trim}
 use Rattle.promises.specs.Whole.{whole-loads}
-use Rattle.promises.specs.WorkedImage.{trimBytes, workedImage, untrimmedImage}
+use Rattle.paper.specs.WorkedImage.{trimBytes, workedImage, untrimmedImage}
 use Rattle.promises.specs.WorkedReadings.{worked-sections, untrimmed-sections, untrimmed-accepted-at-2, worked-accepted, untrimmed-at-2, counted, inside, inside-untrimmed}
 
 abbrev insideCounts : Counts
 insideCounts = counted 40000 7003827 66600 7247344
 
 -- ---- bytes
-
-abbrev areBytes : List ℕ → Bool
-areBytes [] = true
-areBytes (b ∷ l) = ltb b 256 && areBytes l
-
-computed-bytes : (l : List ℕ) → areBytes l ≡ true → Bytes l
-computed-bytes [] e = bytes-nil
-computed-bytes (b ∷ l) e = bytes-cons b l (ltb-true b 256 (both-left (ltb b 256) (areBytes l) e)) (computed-bytes l (both-right (ltb b 256) (areBytes l) e))
 
 untrimmed-bytes : Bytes untrimmedImage
 untrimmed-bytes = computed-bytes untrimmedImage refl

@@ -2,7 +2,6 @@ pub mod Answers
 pub mod Further
 pub mod Lower
 pub mod Merged
-pub mod WorkedImage
 pub mod Demand1
 pub mod Demand2
 pub mod Demand3

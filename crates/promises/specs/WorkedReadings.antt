@@ -26,7 +26,7 @@ use Rattle.reading.specs.Measured.{outside, markOf, trimmedBy, shownBy, measure
 use Rattle.panel.specs.Levels.{knows}
 use Rattle.panel.specs.Verdict.{unknownVerdict, missingVerdict, kindVerdict, bodyVerdict, bodiesVerdict, sectionsVerdict, verdictOf}
 use Rattle.panel.specs.Reading.{sectionsReading, readingOf}
-use Rattle.promises.specs.WorkedImage.{identityBytes, pressureBytes, temperatureBytes, trimBytes, noteBytes, workedImage, untrimmedImage}
+use Rattle.paper.specs.WorkedImage.{identityBytes, pressureBytes, temperatureBytes, trimBytes, noteBytes, workedImage, untrimmedImage}
 
 -- where a proof unfolds this, it unfolds all that a reading is worked out by
 workedOut : (level : ℕ) → (image : List ℕ) → Counts → Answer
