@@ -1,3 +1,4 @@
+pub mod OnPaper
 pub mod TableLaws
 pub mod TestsLaws
 pub mod FieldsAgree

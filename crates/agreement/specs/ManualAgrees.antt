@@ -27,7 +27,8 @@ use Rattle.agreement.specs.NearestLaws.{rounded-is-nearest}
 use Rattle.agreement.specs.TableLaws.{none-before}
 use Rattle.agreement.specs.VerdictAgrees.{verdict-accepted-exactly, accepted-readable}
 use Rattle.agreement.specs.SetAgrees.{few-rows, few-places, place-there, place-absent, row-absent}
-use Rattle.agreement.specs.ReadingAgrees.{onPaper, reading-shown-exactly}
+use Rattle.agreement.specs.OnPaper.{onPaper}
+use Rattle.agreement.specs.ReadingAgrees.{reading-shown-exactly}
 
 -- ---- a sum of at most five terms, with zeros for the others
 

@@ -34,6 +34,7 @@ use Rattle.reading.specs.Polynomial.{setResult}
 use Rattle.reading.specs.Measured.{andShow, markOf, trimmedBy, shownBy, measuredOf}
 use Rattle.panel.specs.Verdict.{verdictOf}
 use Rattle.panel.specs.Reading.{bodyIn, trimmingOf, sectionsReading, afterVerdict, readingOf}
+use Rattle.agreement.specs.OnPaper.{onPaper, ShowsReading}
 use Rattle.agreement.specs.TableLaws.{Gives, none-append, none-before, none-after, first-append, first-stays, Single, single-append, row-once, none-or-first, first-once}
 use Rattle.agreement.specs.TestsLaws.{fails-beyond}
 use Rattle.agreement.specs.FieldsAgree.{signed-same}
@@ -44,20 +45,6 @@ use Rattle.agreement.specs.ValueLaws.{ValueGives}
 use Rattle.agreement.specs.FrequencyAgrees.{Counted, frequency-gives}
 use Rattle.agreement.specs.SetAgrees.{set-gives, result-once}
 use Rattle.agreement.specs.ShownAgrees.{mark-is, mark-once, trim-is, shown-once}
-
--- ---- the counts and the reading in document 01's numbers
-
-abbrev pub onPaper : Counts → PaperCounts
-onPaper counts =
-    record {
-      pressureNS = counts .pressure .sensor .0;
-      pressureNR = counts .pressure .reference .0;
-      temperatureNS = counts .temperature .sensor .0;
-      temperatureNR = counts .temperature .reference .0;
-    }
-
-abbrev pub ShowsReading : (image : List ℕ) → Counts → Reading → Type 0
-ShowsReading image counts reading = Shows image (onPaper counts) (reading .pressure) (reading .temperature) (reading .unit) (reading .mark)
 
 -- an answer is a reading of which P holds, or refused as the table says
 abbrev pub AnswerGives : List Row → (P : Reading → Type 0) → Answer → Type 0

@@ -51,7 +51,8 @@ use Rattle.agreement.specs.WriterAgrees.{write-refused-exactly, written-exactly
 use Rattle.agreement.specs.FinderAgrees.{found-exactly, absent-exactly, offset-exactly}
 use Rattle.agreement.specs.BuilderAgrees.{build-refused-exactly, built-exactly}
 use Rattle.agreement.specs.VerdictAgrees.{verdict-refused-exactly, verdict-accepted-exactly}
-use Rattle.agreement.specs.ReadingAgrees.{onPaper, reading-refused-exactly, reading-shown-exactly}
+use Rattle.agreement.specs.OnPaper.{onPaper}
+use Rattle.agreement.specs.ReadingAgrees.{reading-refused-exactly, reading-shown-exactly}
 use Rattle.promises.specs.Answers.{Fills, refused, filled, LoadRefused, Loaded, AnswersFind, found, absent, FindsPart, foundPart, absentPart, AnswersReading, notShown, shown}
 
 -- ---- every number of a table is from 1 on

@@ -52,7 +52,7 @@ use Rattle.agreement.specs.TableLaws.{judged-alone, Single, row-once, refused-e
 use Rattle.agreement.specs.LayoutAgrees.{layout-gives}
 use Rattle.agreement.specs.BodiesAgree.{identity-judges, set-judges, trim-judges, note-judges}
 use Rattle.agreement.specs.VerdictAgrees.{verdict-gives}
-use Rattle.agreement.specs.ReadingAgrees.{onPaper}
+use Rattle.agreement.specs.OnPaper.{onPaper}
 use Rattle.promises.specs.Answers.{AnswersRead, AnswersWrite, AnswersBuild, AnswersLoad, AnswersFind, FindsPart, AnswersReading}
 use Rattle.promises.specs.AnswersLaws.{verdict-tells, fills-answer, told-answer, read-refuses, read-results, write-refuses, write-results, build-refuses, build-results, load-refuses, load-results, find-answer, finds-part, has-answer, reading-answer}
 use Rattle.promises.specs.ZerosLaws.{refused-zeros, part-starts, zeros-refused}

@@ -57,7 +57,8 @@ use Rattle.agreement.specs.LayoutAgrees.{layout-refused-exactly, layout-accepte
 use Rattle.agreement.specs.FinderAgrees.{found-exactly, absent-exactly, offset-exactly}
 use Rattle.agreement.specs.BuilderAgrees.{build-refused-exactly, built-exactly}
 use Rattle.agreement.specs.VerdictAgrees.{verdict-refused-exactly, verdict-accepted-exactly}
-use Rattle.agreement.specs.ReadingAgrees.{onPaper, ShowsReading, reading-refused-exactly, reading-shown-exactly}
+use Rattle.agreement.specs.OnPaper.{onPaper, ShowsReading}
+use Rattle.agreement.specs.ReadingAgrees.{reading-refused-exactly, reading-shown-exactly}
 use Rattle.agreement.specs.ManualAgrees.{grid-by-manual, shows-by-manual}
 
 -- ---- the HEX reader

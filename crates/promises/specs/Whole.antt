@@ -31,7 +31,7 @@ use Rattle.panel.specs.Verdict.{verdictOf}
 use Rattle.panel.specs.Reading.{readingOf}
 use Rattle.panel.specs.Load.{loadText}
 use Rattle.agreement.specs.WriterAgrees.{written-exactly}
-use Rattle.agreement.specs.ReadingAgrees.{onPaper}
+use Rattle.agreement.specs.OnPaper.{onPaper}
 use Rattle.agreement.specs.ManualAgrees.{shows-by-manual}
 use Rattle.promises.specs.Further.{Among, EachOnce}
 use Rattle.promises.specs.AnewBuilt.{among-found}
