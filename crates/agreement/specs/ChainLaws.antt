@@ -5,11 +5,12 @@ use mathlib.Core.Path.{_≡_, refl}
 use Prim.Native.Nat.{ℕ, zero, suc, _+_, _-_, _^_, _≤_, _<_}
 use native.Mathlib.Omega.{arith}
 use lib.Dec.{leb, lit<}
-use lib.IntN.{ℤ, pos, natAbs, _+ℤ_, _*ℤ_, +ℤ-idr}
+use lib.IntN.{ℤ, pos, natAbs, _+ℤ_, _*ℤ_, +ℤ-idr, zero-*ℤ}
 use Rattle.paper.specs.Words.{Not, Beyond}
 use Rattle.paper.specs.Reading.{Sum}
 use Rattle.laws.specs.Cases.{split, decide}
 use Rattle.whole.specs.Rounded.{rounded}
+use Rattle.whole.specs.RoundedLaws.{rounded-nothing}
 use Rattle.refusals.specs.Refusals.{refusal}
 use Rattle.reading.specs.declared.value.Value.{Value}
 use Rattle.reading.specs.declared.value.Value.the-variants.{Known, Refused}
@@ -56,7 +57,7 @@ module _ (kind : ℕ) (x : ℤ) (last : ℕ) (Term : ℕ → ℤ → Type 0) (on
         split last i
         (λ (l : last ≤ i).
         let none : last - i ≡ 0 = omega arith in
-        rw (none, g .1 (omega arith), nothing-turned x, +ℤ-idr c) term)
+        rw (none, g .1 (omega arith), zero-*ℤ x, rounded-nothing (2 ^ 24) (lit< tt), +ℤ-idr c) term)
         (λ (l : i < last).
         let more : last - i ≡ suc (last - (i + 1)) = omega arith in
         rw more (c, sum, rounded (sum *ℤ x) (2 ^ 24), term, g .0 (omega arith), rounded-is-nearest (sum *ℤ x) (2 ^ 24) (lit< tt), refl))
