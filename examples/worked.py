@@ -3,7 +3,7 @@
 
 Usage: python3 examples/worked.py WORD, which prints
     image      the bytes as antt lists, as they stand in crates/paper/specs/WorkedImage.antt
-    readings   the readings as theorems, as they stand in crates/promises/specs/WorkedReadings.antt
+    readings   the readings as the rows of a table, as they stand in crates/promises/specs/WorkedReadings.antt
     steps      the first reading and document 01's polynomial example step by step, as in docs/WORKED.md
     table      all readings, as in docs/WORKED.md
     errors     how many readings change with an easy error, or with one more or one less in a number of the image
@@ -204,22 +204,14 @@ def signed(n):
     return f"pos {n}" if n >= 0 else f"negℤ (pos {-n})"
 
 
-def theorem(name, level, image, counts, answer):
-    print(f"pub {name} : readingOf {level} {image} (counted {' '.join(map(str, counts))})")
-    print(f"    ≡ {answer}\nunfolding workedOut\n{name} = refl\n")
-
-
 def print_readings():
     for name, words, *counts in READINGS:
         pressure, shown, temperature, unit, marked = reading(GAUGE, counts)
-        rest = f"temperature = {signed(temperature)}; unit = {{}}; mark = {marked}"
-        print(f"-- {words}: {shown / 65536:,.3f} bar, {temperature / 65536:,.3f} °C")
-        theorem(name, 2, "workedImage", counts, f"Shown (record {{ pressure = {signed(shown)}; {rest.format(unit)} }})")
-        print(f"-- without the trim {pressure / 65536:,.3f} psi")
-        theorem(name + "-untrimmed", 1, "untrimmedImage", counts, f"Shown (record {{ pressure = {signed(pressure)}; {rest.format(1)} }})")
+        print(f"    -- {name}: {words}; {shown / 65536:,.3f} bar, {pressure / 65536:,.3f} psi, {temperature / 65536:,.3f} °C")
+        print(f"    ∷ shows (counted {' '.join(map(str, counts))}) ({signed(shown)}) ({signed(pressure)}) ({signed(temperature)}) {marked}")
     for name, words, *counts in REFUSED:
-        print(f"-- {words}")
-        theorem(name, 2, "workedImage", counts, "Refused (refusal {} {})".format(*reading(GAUGE, counts)))
+        print(f"    -- {name}: {words}")
+        print("    ∷ refuses (counted {}) {} {}".format(" ".join(map(str, counts)), *reading(GAUGE, counts)))
 
 
 def quotient(n, d):

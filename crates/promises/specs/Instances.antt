@@ -44,7 +44,7 @@ use Rattle.promises.specs.Demand1.{no-reading-after, no-reading-after-lo
 use Rattle.promises.specs.Demand3.{high-verdict, high-reading, low-verdict, low-reading, without-trim, with-trim}
 use Rattle.promises.specs.Whole.{whole-loads}
 use Rattle.paper.specs.WorkedImage.{trimBytes, workedImage, untrimmedImage}
-use Rattle.promises.specs.WorkedReadings.{worked-sections, untrimmed-sections, untrimmed-accepted-at-2, worked-accepted, untrimmed-at-2, counted, inside, inside-untrimmed}
+use Rattle.promises.specs.WorkedReadings.{worked-sections, untrimmed-sections, untrimmed-accepted-at-2, worked-accepted, untrimmed-at-2, counted, readings-at-1, readings-at-2}
 
 abbrev insideCounts : Counts
 insideCounts = counted 40000 7003827 66600 7247344
@@ -140,7 +140,7 @@ high-met = high-verdict 2 untrimmedImage highSections anewHigh further-high anew
 
 pub high-reading-met : readingOf 2 anewHigh insideCounts ≡ Shown (record { pressure = pos 311201430; temperature = pos 4830423; unit = 1; mark = 0 })
 high-reading-met =
-    high-reading 2 untrimmedImage highSections anewHigh further-high anew-high all-high insideCounts ∙ untrimmed-at-2 insideCounts ∙ inside-untrimmed
+    high-reading 2 untrimmedImage highSections anewHigh further-high anew-high all-high insideCounts ∙ untrimmed-at-2 insideCounts ∙ readings-at-1 .0
 
 -- of kinds 200, 127 and 5 the panel names 5
 further-mixed : Further 2 untrimmedImage mixedSections
@@ -201,13 +201,13 @@ low-reading-met = low-reading 2 untrimmedImage mixedSections anewMixed further-m
 pub without-trim-met : readingOf 1 untrimmedImage insideCounts ≡ Shown (record { pressure = pos 311201430; temperature = pos 4830423; unit = 1; mark = 0 })
 unfolding bodyOf
 without-trim-met =
-    without-trim untrimmedImage insideCounts _ (untrimmed-at-2 insideCounts ∙ inside-untrimmed)
+    without-trim untrimmedImage insideCounts _ (untrimmed-at-2 insideCounts ∙ readings-at-1 .0)
     (none-found untrimmedImage 4 untrimmed-good (rw untrimmed-sections))
 
 -- with kind 4 level 1 refuses
 pub with-trim-met : readingOf 1 workedImage insideCounts ≡ Refused (refusal 9 4)
 unfolding bodyOf
-with-trim-met = with-trim workedImage insideCounts _ inside (found-is-had workedImage 4 trimBytes (rw worked-sections) .has)
+with-trim-met = with-trim workedImage insideCounts _ (readings-at-2 .0) (found-is-had workedImage 4 trimBytes (rw worked-sections) .has)
 
 -- ---- build, write, load: the worked image's own sections
 
