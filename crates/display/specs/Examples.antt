@@ -1,16 +1,38 @@
 -- Document 01's examples of the show program: what is printed of each verdict.
-use mathlib.Core.List.{_++_}
+use mathlib.Core.List.{List, _++_}
 use mathlib.Core.Path.{_≡_, refl}
+use Prim.Native.Nat.{ℕ}
+use native.Mathlib.Omega.{arith}
 use lib.IntN.{pos}
 use Rattle.laws.specs.Characters.{characters}
-use Rattle.refusals.specs.Refusals.{refusal}
+use Rattle.laws.specs.Sums.{total}
+use Rattle.refusals.specs.Refusals.{result, refusal}
+use Rattle.hextext.specs.Text.{readText}
+use Rattle.hextext.specs.Written.{hexDigit, spell, checksum, headAndData, recordText, writing, textOf}
+use Rattle.hexformat.specs.ComputedBytes.{computed-bytes}
+use Rattle.hexformat.specs.RoundTrip.{written-reads-back}
 use Rattle.panel.specs.Examples.{image, level-1, level-2, unknown-127}
 use Rattle.display.specs.Words.{decimalIn}
-use Rattle.display.specs.Page.{identityWords, setsWords, levelLine, textRefused}
+use Rattle.display.specs.Page.{identityWords, setsWords, levelLine, textRefused, pageOf}
 
 pub contents-only : levelLine 1 (image 200) ++ levelLine 2 (image 200) ≡ characters "level 1 refused 10 1\nlevel 2 refused 10 1\n"
 unfolding levelLine decimalIn
 contents-only = rw (level-1, level-2)
+
+-- the whole page of the text in document 01
+abbrev text : List ℕ
+text = characters ":0A0000005101C8000A0000000000D2\n:00000001FF\n"
+
+text-written : textOf (image 200) ≡ text
+unfolding textOf writing recordText spell hexDigit headAndData checksum total
+text-written = refl
+
+text-read : readText 4096 text ≡ result (image 200)
+text-read = rw (← text-written) (written-reads-back (image 200) (computed-bytes (image 200) refl) 4096 (omega arith) (omega arith))
+
+pub document-page : pageOf text ≡ characters "level 1 refused 10 1\nlevel 2 refused 10 1\n"
+unfolding pageOf
+document-page = rw text-read contents-only
 
 pub kind-127 : levelLine 1 (image 127) ≡ characters "level 1 refused 9 127\n"
 unfolding levelLine decimalIn
