@@ -1,6 +1,6 @@
 -- What a call answers, in document 01's numbers and words.
 use mathlib.Core.Bool.{Bool, true, false}
-use mathlib.Core.List.{List, [], _++_}
+use mathlib.Core.List.{List, [], _∷_, _++_}
 use mathlib.Core.Logic.{_⊎_}
 use mathlib.Core.Path.{_≡_}
 use Prim.Native.Nat.{ℕ, _+_, _-_, _≤_, min}
@@ -15,6 +15,7 @@ use Rattle.paper.specs.Verdict.{verdictTable}
 use Rattle.paper.specs.Builder.{builderTable, IsImageOf}
 use Rattle.paper.specs.Reading.{Counts, Shows}
 use Rattle.paper.specs.ReadingTable.{readingTable}
+use Rattle.builder.specs.declared.Line.{Line}
 use Rattle.hexformat.specs.Format.{GoodText}
 use Rattle.hexformat.specs.Faults.{Refuses}
 use Rattle.hexformat.specs.Writing.{Written}
@@ -39,6 +40,15 @@ AnswersRead text before = Fills (Refuses (room before) text) (λ image. GoodText
 -- an image written
 abbrev pub AnswersWrite : (image before : List ℕ) → (number detail size : ℕ) (after : List ℕ) → Type 0
 AnswersWrite image before = Fills (FirstGiven (writerTable (length before) image)) (Written image) before
+
+-- the kinds and the lengths of contents lines
+abbrev pub kindsLent : List Line → List ℕ
+kindsLent [] = []
+kindsLent (l ∷ lines) = l .kind ∷ kindsLent lines
+
+abbrev pub lengthsLent : List Line → List ℕ
+lengthsLent [] = []
+lengthsLent (l ∷ lines) = l .length ∷ lengthsLent lines
 
 -- an image built
 abbrev pub AnswersBuild : (kinds lengths bodies before : List ℕ) → (number detail size : ℕ) (after : List ℕ) → Type 0

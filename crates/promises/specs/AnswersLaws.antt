@@ -35,7 +35,8 @@ use Rattle.hextext.specs.Text.{readText}
 use Rattle.hextext.specs.Written.{writeImage}
 use Rattle.image.specs.Find.{found as found-in, foundOffset, isThere, Found}
 use Rattle.builder.specs.Build.{buildImage}
-use Rattle.builder.specs.Lines.{linesGiven}
+use Rattle.builder.specs.declared.Line.{Line}
+use Rattle.builder.specs.Lines.{linesGiven, kindsOf, lengthsOf}
 use Rattle.finder.specs.declared.Place.{Place}
 use Rattle.finder.specs.Places.{placed}
 use Rattle.finder.specs.Told.{placeTold}
@@ -53,7 +54,7 @@ use Rattle.agreement.specs.BuilderAgrees.{build-refused-exactly, built-exactly}
 use Rattle.agreement.specs.VerdictAgrees.{verdict-refused-exactly, verdict-accepted-exactly}
 use Rattle.agreement.specs.OnPaper.{onPaper}
 use Rattle.agreement.specs.ReadingAgrees.{reading-refused-exactly, reading-shown-exactly}
-use Rattle.promises.specs.Answers.{Fills, refused, filled, LoadRefused, Loaded, AnswersFind, found, absent, FindsPart, foundPart, absentPart, AnswersReading, notShown, shown}
+use Rattle.promises.specs.Answers.{Fills, refused, filled, kindsLent, lengthsLent, LoadRefused, Loaded, AnswersFind, found, absent, FindsPart, foundPart, absentPart, AnswersReading, notShown, shown}
 
 -- ---- every number of a table is from 1 on
 
@@ -112,6 +113,15 @@ module _ (size : ℕ) (kinds lengths bodies : List ℕ) where
   pub build-results : Bytes bodies → (image : List ℕ) → buildImage size (linesGiven kinds lengths) bodies ≡ result image
       → IsImageOf kinds lengths bodies image
   build-results b image e = built-exactly size kinds lengths bodies image b .0 e .1
+
+-- the builder's own kinds and lengths of lines are these
+pub kinds-lent : (lines : List Line) → kindsLent lines ≡ kindsOf lines
+kinds-lent [] = refl
+kinds-lent (l ∷ lines) = ap (λ (ks : List ℕ). l .kind ∷ ks) (kinds-lent lines)
+
+pub lengths-lent : (lines : List Line) → lengthsLent lines ≡ lengthsOf lines
+lengths-lent [] = refl
+lengths-lent (l ∷ lines) = ap (λ (ls : List ℕ). l .length ∷ ls) (lengths-lent lines)
 
 module _ (level : ℕ) (text before : List ℕ) where
   abbrev loaded : Outcome

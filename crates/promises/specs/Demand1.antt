@@ -53,8 +53,8 @@ use Rattle.agreement.specs.LayoutAgrees.{layout-gives}
 use Rattle.agreement.specs.BodiesAgree.{identity-judges, set-judges, trim-judges, note-judges}
 use Rattle.agreement.specs.VerdictAgrees.{verdict-gives}
 use Rattle.agreement.specs.OnPaper.{onPaper}
-use Rattle.promises.specs.Answers.{AnswersRead, AnswersWrite, AnswersBuild, AnswersLoad, AnswersFind, FindsPart, AnswersReading}
-use Rattle.promises.specs.AnswersLaws.{verdict-tells, fills-answer, told-answer, read-refuses, read-results, write-refuses, write-results, build-refuses, build-results, load-refuses, load-results, find-answer, finds-part, has-answer, reading-answer}
+use Rattle.promises.specs.Answers.{AnswersRead, AnswersWrite, kindsLent, lengthsLent, AnswersBuild, AnswersLoad, AnswersFind, FindsPart, AnswersReading}
+use Rattle.promises.specs.AnswersLaws.{verdict-tells, fills-answer, told-answer, read-refuses, read-results, write-refuses, write-results, build-refuses, build-results, kinds-lent, lengths-lent, load-refuses, load-results, find-answer, finds-part, has-answer, reading-answer}
 use Rattle.promises.specs.ZerosLaws.{refused-zeros, part-starts, zeros-refused}
 
 -- ---- every text
@@ -194,16 +194,17 @@ set-answers call r b learnt =
 -- Building an image answers the image of these lines and bodies, or the first of 18, 19, 17.
 pub build-answers : EveryCall builder.build.ended build.Learnt
     (λ call r b.
-    AnswersBuild (kindsOf (now (call .arguments .0))) (lengthsOf (now (call .arguments .0))) (now (call .arguments .1 .0)) (now (call .arguments .1 .1 .0))
+    AnswersBuild (kindsLent (now (call .arguments .0))) (lengthsLent (now (call .arguments .0))) (now (call .arguments .1 .0)) (now (call .arguments .1 .1 .0))
     (filledNumber r) (filledDetail r) (filledLength r) (b .1 .1 .0))
 build-answers call r b learnt =
     let lines = now (call .arguments .0) in
     let bodies = now (call .arguments .1 .0) in
     let before = now (call .arguments .1 .1 .0) in
-    fills-answer (buildImage (length before) (linesGiven (kindsOf lines) (lengthsOf lines)) bodies)
+    rw (kinds-lent lines, lengths-lent lines)
+    (fills-answer (buildImage (length before) (linesGiven (kindsOf lines) (lengthsOf lines)) bodies)
     (build-refuses (length before) (kindsOf lines) (lengthsOf lines) bodies)
     (build-results (length before) (kindsOf lines) (lengthsOf lines) bodies (lent-bytes call (next (shared 1 tt))))
-    before (b .1 .1 .0) r (rw (given-again lines) learnt)
+    before (b .1 .1 .0) r (rw (given-again lines) learnt))
 
 pub build-from-numbers-answers : EveryCall builder.build_from_numbers.ended builder.build_from_numbers.Reads.Learnt
     (λ call r b.
