@@ -27,7 +27,7 @@ use Rattle.refusals.specs.declared.Verdict.{Verdict}
 use Rattle.refusals.specs.declared.Verdict.the-variants.{Accepted, Refused as NotAccepted}
 use Rattle.refusals.specs.declared.Filled.{Filled}
 use Rattle.refusals.specs.declared.told.ToldFilled.{ToldFilled}
-use Rattle.refusals.specs.Paper.{verdictNumber, verdictDetail, filledNumber, filledDetail, filledLength}
+use Rattle.refusals.specs.InNumbers.{verdictNumber, verdictDetail, filledNumber, filledDetail, filledLength}
 use Rattle.refusals.specs.Refusals.{Outcome, result, refused as is-refused, answerTo, Fills as FillsBuffer}
 use Rattle.refusals.specs.Told.{ToldFills}
 use Rattle.refusals.specs.VerdictLaws.{checked-refused, checked-result}
@@ -43,7 +43,7 @@ use Rattle.finder.specs.Told.{placeTold}
 use Rattle.reading.specs.declared.Counts.{Counts}
 use Rattle.reading.specs.declared.Answer.{Answer}
 use Rattle.reading.specs.declared.Answer.the-variants.{Shown, Refused}
-use Rattle.reading.specs.Paper.{answerNumber, answerDetail, answerPressure, answerTemperature, answerUnit, answerMark}
+use Rattle.reading.specs.InNumbers.{answerNumber, answerDetail, answerPressure, answerTemperature, answerUnit, answerMark}
 use Rattle.panel.specs.Verdict.{verdictOf}
 use Rattle.panel.specs.Reading.{readingOf}
 use Rattle.panel.specs.Load.{judged, loadText}

@@ -15,7 +15,7 @@ use Rattle.paper.specs.Verdict.{verdictTable}
 use Rattle.refusals.specs.declared.Refusal.{Refusal}
 use Rattle.refusals.specs.declared.Verdict.the-variants.{Accepted, Refused as NotAccepted}
 use Rattle.refusals.specs.declared.Filled.the-variants.{Refused as NotFilled}
-use Rattle.refusals.specs.Paper.{verdictNumber, verdictDetail, filledNumber, filledDetail, filledLength}
+use Rattle.refusals.specs.InNumbers.{verdictNumber, verdictDetail, filledNumber, filledDetail, filledLength}
 use Rattle.refusals.specs.Refusals.{Outcome, refusal, Fills as FillsBuffer}
 use Rattle.calls.specs.Call.{shared, next, EveryCall}
 use Rattle.calls.specs.BuildReads as build
@@ -33,7 +33,7 @@ use Rattle.bodies.specs.Trim.{trimVerdict}
 use Rattle.bodies.specs.Note.{noteVerdict}
 use Rattle.reading.specs.declared.Counts.{Counts}
 use Rattle.reading.specs.declared.Answer.the-variants.{Refused}
-use Rattle.reading.specs.Paper.{answerNumber, answerDetail, answerPressure, answerTemperature, answerUnit, answerMark}
+use Rattle.reading.specs.InNumbers.{answerNumber, answerDetail, answerPressure, answerTemperature, answerUnit, answerMark}
 use Rattle.panel.specs.Levels.{isLevel}
 use Rattle.panel.specs.Verdict.{verdictOf}
 use Rattle.panel.specs.Reading.{readingOf}

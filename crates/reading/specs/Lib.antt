@@ -2,7 +2,7 @@ pub mod Value
 pub mod Frequency
 pub mod Polynomial
 pub mod Measured
-pub mod Paper
+pub mod InNumbers
 pub mod Told
 pub mod PolynomialCuts
 pub mod MeasuredCuts

@@ -1,7 +1,7 @@
 -- An answer as C gets it.
 use Rattle.reading.specs.declared.Answer.{Answer}
 use Rattle.reading.specs.declared.told.ToldAnswer.{ToldAnswer}
-use Rattle.reading.specs.Paper.{answerNumber, answerDetail, answerPressure, answerTemperature, answerUnit, answerMark}
+use Rattle.reading.specs.InNumbers.{answerNumber, answerDetail, answerPressure, answerTemperature, answerUnit, answerMark}
 
 abbrev pub answerTold : Answer → ToldAnswer
 answerTold answer =

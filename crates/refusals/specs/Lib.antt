@@ -1,4 +1,4 @@
-pub mod Paper
+pub mod InNumbers
 pub mod Refusals
 pub mod Told
 pub mod RefusalsLaws

@@ -10,7 +10,7 @@ use Rattle.numbers.specs.Slices.{clearedFrom}
 use Rattle.refusals.specs.declared.Refusal.{Refusal}
 use Rattle.refusals.specs.declared.Filled.{Filled}
 use Rattle.refusals.specs.declared.Filled.the-variants.{Length, Refused}
-use Rattle.refusals.specs.Paper.{filledLength}
+use Rattle.refusals.specs.InNumbers.{filledLength}
 use Rattle.refusals.specs.Refusals.{Outcome, result, refused, answerTo, heldAfter, Fills, Settled}
 
 module _ (a : Filled) (d d′ : List ℕ) where

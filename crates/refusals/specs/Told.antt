@@ -7,7 +7,7 @@ use Rattle.refusals.specs.declared.Verdict.{Verdict}
 use Rattle.refusals.specs.declared.Filled.{Filled}
 use Rattle.refusals.specs.declared.told.ToldVerdict.{ToldVerdict}
 use Rattle.refusals.specs.declared.told.ToldFilled.{ToldFilled}
-use Rattle.refusals.specs.Paper.{verdictNumber, verdictDetail, filledNumber, filledDetail, filledLength}
+use Rattle.refusals.specs.InNumbers.{verdictNumber, verdictDetail, filledNumber, filledDetail, filledLength}
 use Rattle.refusals.specs.Refusals.{Outcome, answerTo, heldAfter}
 
 abbrev pub verdictTold : Verdict → ToldVerdict
