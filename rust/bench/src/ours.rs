@@ -28,11 +28,17 @@ pub fn layout(inputs: &Inputs, _: &mut [u8]) -> u64 {
 }
 
 pub fn verdict_typical(inputs: &Inputs, _: &mut [u8]) -> u64 {
-    judged(bjorkneve::verdict(opaque(&inputs.typical), opaque(Level::One)))
+    judged(bjorkneve::verdict(
+        opaque(&inputs.typical),
+        opaque(Level::One),
+    ))
 }
 
 pub fn verdict_large(inputs: &Inputs, _: &mut [u8]) -> u64 {
-    judged(bjorkneve::verdict(opaque(&inputs.large), opaque(Level::Two)))
+    judged(bjorkneve::verdict(
+        opaque(&inputs.large),
+        opaque(Level::Two),
+    ))
 }
 
 pub fn reading_typical(inputs: &Inputs, _: &mut [u8]) -> u64 {
@@ -46,7 +52,11 @@ pub fn reading_typical(inputs: &Inputs, _: &mut [u8]) -> u64 {
 
 pub fn reading_large(inputs: &Inputs, _: &mut [u8]) -> u64 {
     let counts: Counts = opaque(inputs.our_counts);
-    shown(bjorkneve::reading(opaque(&inputs.large), opaque(Level::Two), counts))
+    shown(bjorkneve::reading(
+        opaque(&inputs.large),
+        opaque(Level::Two),
+        counts,
+    ))
 }
 
 fn filled(answer: Result<&[u8], Refusal>) -> u64 {

@@ -19,7 +19,7 @@
 //!     },
 //! };
 //! let reading = bjorkneve::reading(image, Level::Two, counts)?;
-//! assert_eq!((reading.pressure >> 16, reading.unit), (4_999, Unit::Psi));
+//! assert_eq!((reading.pressure >> 16, reading.unit), (2_989, Unit::Psi));
 //! # Ok::<(), bjorkneve::Refusal>(())
 //! ```
 

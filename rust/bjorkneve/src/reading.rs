@@ -62,10 +62,17 @@ impl fmt::Display for Unit {
 /// # let text = include_bytes!(concat!(env!("CARGO_MANIFEST_DIR"), "/../../examples/typical.hex"));
 /// # let mut buffer = [0; bjorkneve::LARGEST_IMAGE];
 /// # let image = bjorkneve::load(text, Level::Two, &mut buffer)?;
-/// # let channel = |reference| Channel { sensor: SensorCycles(10_000), reference: ReferenceCycles(reference) };
-/// # let counts = Counts { pressure: channel(2_847_876), temperature: channel(1_352_875) };
+/// let channel = |reference| Channel {
+///     sensor: SensorCycles(10_000),
+///     reference: ReferenceCycles(reference),
+/// };
+/// // of a gauge for 25 to 175 °C and 12 to 20,000 psi, -10 psi and 61 °C
+/// let counts = Counts {
+///     pressure: channel(3_280_000),
+///     temperature: channel(1_355_000),
+/// };
 /// let mark = bjorkneve::reading(image, Level::Two, counts)?.mark;
-/// assert!(mark.is_clear());
+/// assert!(mark.pressure_outside() && !mark.temperature_outside());
 /// # Ok::<(), bjorkneve::Refusal>(())
 /// ```
 #[derive(Debug, Clone, Copy, PartialEq, Eq)]
@@ -81,7 +88,8 @@ impl Mark {
     /// # let image = bjorkneve::load(text, Level::Two, &mut buffer)?;
     /// # let channel = |reference| Channel { sensor: SensorCycles(10_000), reference: ReferenceCycles(reference) };
     /// # let counts = Counts { pressure: channel(2_847_876), temperature: channel(1_352_875) };
-    /// assert!(bjorkneve::reading(image, Level::One, counts)?.mark.is_clear());
+    /// let reading = bjorkneve::reading(image, Level::Two, counts)?;
+    /// assert!(reading.mark.is_clear());
     /// # Ok::<(), bjorkneve::Refusal>(())
     /// ```
     #[inline]
@@ -91,6 +99,18 @@ impl Mark {
     }
 
     /// The temperature lies outside.
+    ///
+    /// ```
+    /// # use bjorkneve::{Channel, Counts, Level, ReferenceCycles, SensorCycles};
+    /// # let text = include_bytes!(concat!(env!("CARGO_MANIFEST_DIR"), "/../../examples/typical.hex"));
+    /// # let mut buffer = [0; bjorkneve::LARGEST_IMAGE];
+    /// # let image = bjorkneve::load(text, Level::Two, &mut buffer)?;
+    /// # let channel = |reference| Channel { sensor: SensorCycles(10_000), reference: ReferenceCycles(reference) };
+    /// # let counts = Counts { pressure: channel(3_260_000), temperature: channel(1_125_000) };
+    /// let reading = bjorkneve::reading(image, Level::Two, counts)?;
+    /// assert!(reading.mark.temperature_outside()); // -18 °C
+    /// # Ok::<(), bjorkneve::Refusal>(())
+    /// ```
     #[inline]
     #[must_use]
     pub fn temperature_outside(self) -> bool {
@@ -98,14 +118,37 @@ impl Mark {
     }
 
     /// The pressure lies outside, in psi and before trim.
+    ///
+    /// ```
+    /// # use bjorkneve::{Channel, Counts, Level, ReferenceCycles, SensorCycles};
+    /// # let text = include_bytes!(concat!(env!("CARGO_MANIFEST_DIR"), "/../../examples/typical.hex"));
+    /// # let mut buffer = [0; bjorkneve::LARGEST_IMAGE];
+    /// # let image = bjorkneve::load(text, Level::Two, &mut buffer)?;
+    /// # let channel = |reference| Channel { sensor: SensorCycles(10_000), reference: ReferenceCycles(reference) };
+    /// # let counts = Counts { pressure: channel(3_280_000), temperature: channel(1_355_000) };
+    /// let reading = bjorkneve::reading(image, Level::Two, counts)?;
+    /// assert!(reading.mark.pressure_outside()); // -10 psi
+    /// # Ok::<(), bjorkneve::Refusal>(())
+    /// ```
     #[inline]
     #[must_use]
     pub fn pressure_outside(self) -> bool {
         self.0 & card::MARK_PRESSURE != 0
     }
 
-    /// The number that a panel shows: 1 for the temperature plus 2 for the
-    /// pressure.
+    /// The mark as a number: 1 for the temperature plus 2 for the pressure.
+    ///
+    /// ```
+    /// # use bjorkneve::{Channel, Counts, Level, ReferenceCycles, SensorCycles};
+    /// # let text = include_bytes!(concat!(env!("CARGO_MANIFEST_DIR"), "/../../examples/typical.hex"));
+    /// # let mut buffer = [0; bjorkneve::LARGEST_IMAGE];
+    /// # let image = bjorkneve::load(text, Level::Two, &mut buffer)?;
+    /// # let channel = |reference| Channel { sensor: SensorCycles(10_000), reference: ReferenceCycles(reference) };
+    /// # let counts = Counts { pressure: channel(3_460_000), temperature: channel(1_240_000) };
+    /// let reading = bjorkneve::reading(image, Level::Two, counts)?;
+    /// assert_eq!(reading.mark.number(), 3); // -1,064 psi and 24.8 °C
+    /// # Ok::<(), bjorkneve::Refusal>(())
+    /// ```
     #[inline]
     #[must_use]
     pub fn number(self) -> u8 {
@@ -114,6 +157,21 @@ impl Mark {
 }
 
 /// What a panel shows.
+///
+/// ```
+/// use bjorkneve::{Channel, Counts, Level, ReferenceCycles, SensorCycles};
+///
+/// # let text = include_bytes!(concat!(env!("CARGO_MANIFEST_DIR"), "/../../examples/trimmed.hex"));
+/// # let mut buffer = [0; bjorkneve::LARGEST_IMAGE];
+/// # let image = bjorkneve::load(text, Level::Two, &mut buffer)?;
+/// # let channel = |reference| Channel { sensor: SensorCycles(10_000), reference: ReferenceCycles(reference) };
+/// # let counts = Counts { pressure: channel(2_847_876), temperature: channel(1_352_875) };
+/// let reading = bjorkneve::reading(image, Level::Two, counts)?;
+/// let (pressure, temperature) = (reading.pressure as f64 / 65_536.0, reading.temperature as f64 / 65_536.0);
+/// let shown = format!("{:.3} {} {:.3} °C", pressure, reading.unit, temperature);
+/// assert_eq!(shown, "206.108 bar 60.418 °C");
+/// # Ok::<(), bjorkneve::Refusal>(())
+/// ```
 #[derive(Debug, Clone, Copy, PartialEq, Eq)]
 pub struct Reading {
     /// In 1/65,536 of the unit.
@@ -126,7 +184,29 @@ pub struct Reading {
     pub mark: Mark,
 }
 
-/// The reading of an image at a level for the counts of both sensors.
+/// The reading of an image at a level for the counts of both sensors. The
+/// image is judged anew (numbers 5 to 13, 15, 16, then 21 to 26).
+///
+/// ```
+/// use bjorkneve::{Channel, Counts, Level, ReferenceCycles, SensorCycles, Unit};
+///
+/// # let text = include_bytes!(concat!(env!("CARGO_MANIFEST_DIR"), "/../../examples/typical.hex"));
+/// # let mut buffer = [0; bjorkneve::LARGEST_IMAGE];
+/// # let image = bjorkneve::load(text, Level::Two, &mut buffer)?;
+/// let counts = Counts {
+///     pressure: Channel {
+///         sensor: SensorCycles(10_000),
+///         reference: ReferenceCycles(2_847_876),
+///     },
+///     temperature: Channel {
+///         sensor: SensorCycles(10_000),
+///         reference: ReferenceCycles(1_352_875),
+///     },
+/// };
+/// let reading = bjorkneve::reading(image, Level::Two, counts)?;
+/// assert_eq!((reading.pressure >> 16, reading.unit), (2_989, Unit::Psi));
+/// # Ok::<(), bjorkneve::Refusal>(())
+/// ```
 #[inline]
 pub fn reading(image: &[u8], level: Level, counts: Counts) -> Result<Reading, Refusal> {
     raw::reading(image, level.into(), counts).answer()
