@@ -31,7 +31,7 @@ extern "C" {
 #define BJORKNEVE_MUST_USE
 #endif
 
-/* What is given and told. */
+/* Limits, levels, units, and the bits of a mark. */
 enum {
     BJORKNEVE_LARGEST_IMAGE = 4096, /* bytes of the largest image */
     BJORKNEVE_LONGEST_WRITTEN_TEXT = 11276, /* bytes of the longest text that is written of an image */
@@ -59,7 +59,7 @@ enum {
     BJORKNEVE_REFUSED_MISSING_KIND = 10, /* A section that every image must have is missing */
     BJORKNEVE_REFUSED_IDENTITY = 11, /* The identity is wrong */
     BJORKNEVE_REFUSED_PRESSURE_SET = 12, /* The pressure set is wrong */
-    BJORKNEVE_REFUSED_TEMPERATURE_SET = 13, /* The temperature set is wrong, as for 12 */
+    BJORKNEVE_REFUSED_TEMPERATURE_SET = 13, /* The temperature set is wrong */
     BJORKNEVE_REFUSED_TRIM = 15, /* The trim is wrong */
     BJORKNEVE_REFUSED_NOTE = 16, /* The note is wrong */
     BJORKNEVE_REFUSED_NO_ROOM = 17, /* The buffer for the text or the image is too short */

@@ -37,7 +37,7 @@ pub mod refused {
     pub const IDENTITY: u32 = 11;
     /// The pressure set is wrong.
     pub const PRESSURE_SET: u32 = 12;
-    /// The temperature set is wrong, as for 12.
+    /// The temperature set is wrong.
     pub const TEMPERATURE_SET: u32 = 13;
     /// The trim is wrong.
     pub const TRIM: u32 = 15;
@@ -79,7 +79,7 @@ pub fn what_happened(number: u32) -> Option<&'static str> {
         refused::MISSING_KIND => "A section that every image must have is missing.",
         refused::IDENTITY => "The identity is wrong: size, date, or a minimum above its maximum.",
         refused::PRESSURE_SET => "The pressure set is wrong: size, algorithm, order, multiplier, offset or a coefficient out of its limits.",
-        refused::TEMPERATURE_SET => "The temperature set is wrong, as for 12.",
+        refused::TEMPERATURE_SET => "The temperature set is wrong: size, algorithm, order, multiplier, offset or a coefficient out of its limits.",
         refused::TRIM => "The trim is wrong: size, unit, a field that must be 0, span or zero out of its limits. Level 2 only.",
         refused::NOTE => "The note is wrong: empty, above 64 characters, or with other characters than those numbered 32 to 126 (no umlauts, no line ends). Level 2 only.",
         refused::NO_ROOM => "The buffer for the text or the image is too short.",
