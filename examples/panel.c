@@ -3,8 +3,8 @@
 #include <inttypes.h>
 #include <stdio.h>
 
-static uint8_t text[65537]; /* one byte more than a text may have */
-static uint8_t image[4096];
+static uint8_t text[BJORKNEVE_LONGEST_SHOWN_TEXT + 1]; /* one byte more than a text may have */
+static uint8_t image[BJORKNEVE_LARGEST_IMAGE];
 
 static int refused(uint32_t number, uint64_t detail) {
     printf("refused %" PRIu32 " %" PRIu64 "\n", number, detail);
@@ -12,7 +12,7 @@ static int refused(uint32_t number, uint64_t detail) {
 }
 
 int main(int count, char **words) {
-    static const char *const units[] = {"", "psi", "bar", "kPa"};
+    static const char *const units[] = {[BJORKNEVE_UNIT_PSI] = "psi", [BJORKNEVE_UNIT_BAR] = "bar", [BJORKNEVE_UNIT_KPA] = "kPa"};
     FILE *file = count == 2 ? fopen(words[1], "rb") : NULL;
     size_t length = file == NULL ? 0 : fread(text, 1, sizeof text, file);
     if (file == NULL || ferror(file)) {
@@ -21,14 +21,18 @@ int main(int count, char **words) {
     }
     fclose(file);
     if (length == sizeof text)
-        return refused(4, 0);
+        return refused(BJORKNEVE_REFUSED_TOO_LARGE, 0);
 
-    BjorkneveFilled loaded = bjorkneve_load(text, length, 2, image, sizeof image);
+    BjorkneveFilled loaded = bjorkneve_load(text, length, BJORKNEVE_LEVEL_2, image, sizeof image);
     if (loaded.number != 0)
         return refused(loaded.number, loaded.detail);
 
     /* 10,000 cycles of each sensor: 25,282 Hz and 53,220 Hz */
-    BjorkneveAnswer answer = bjorkneve_reading(image, loaded.length, 2, 10000, 2847876, 10000, 1352875);
+    const BjorkneveCounts counts = {
+        .pressure = {.sensor = {10000}, .reference = {2847876}},
+        .temperature = {.sensor = {10000}, .reference = {1352875}},
+    };
+    BjorkneveAnswer answer = bjorkneve_reading(image, loaded.length, BJORKNEVE_LEVEL_2, counts);
     if (answer.number != 0)
         return refused(answer.number, answer.detail);
     printf("pressure %.3f %s temperature %.3f C mark %d\n", (double)answer.pressure / 65536, units[answer.unit],

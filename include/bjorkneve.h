@@ -10,7 +10,7 @@
  * another.
  *
  * A length counts the elements of its array. A null pointer with length 0 is an empty array; a null pointer with any other length
- * is not allowed. Levels are 1 and 2, an image has up to 4,096 bytes. */
+ * is not allowed. */
 #ifndef BJORKNEVE_H
 #define BJORKNEVE_H
 
@@ -21,6 +21,58 @@
 #ifdef __cplusplus
 extern "C" {
 #endif
+
+/* Where the compiler knows how, it warns of an answer that is dropped. */
+#if defined(__GNUC__)
+#define BJORKNEVE_MUST_USE __attribute__((warn_unused_result))
+#elif (defined(__cplusplus) && __cplusplus >= 201703L) || (defined(__STDC_VERSION__) && __STDC_VERSION__ > 201710L)
+#define BJORKNEVE_MUST_USE [[nodiscard]]
+#else
+#define BJORKNEVE_MUST_USE
+#endif
+
+/* Limits, levels, units, and the bits of a mark. */
+enum {
+    BJORKNEVE_LARGEST_IMAGE = 4096, /* bytes of the largest image */
+    BJORKNEVE_LONGEST_WRITTEN_TEXT = 11276, /* bytes of the longest text that is written of an image */
+    BJORKNEVE_LONGEST_SHOWN_TEXT = 65536, /* bytes of the longest text that the show program takes */
+    BJORKNEVE_LEVEL_1 = 1, /* a panel that knows identity, pressure set and temperature set */
+    BJORKNEVE_LEVEL_2 = 2, /* a panel that also knows trim and note */
+    BJORKNEVE_UNIT_PSI = 1, /* pressure in psi */
+    BJORKNEVE_UNIT_BAR = 2, /* pressure in bar */
+    BJORKNEVE_UNIT_KPA = 3, /* pressure in kPa */
+    BJORKNEVE_MARK_TEMPERATURE = 1, /* the mark's bit for a temperature outside the gauge's limits */
+    BJORKNEVE_MARK_PRESSURE = 2 /* the mark's bit for a pressure outside them */
+};
+
+/* Why there is no result, the number of an answer: docs/NUMBERS.md says more of each, and what its detail is. */
+enum {
+    BJORKNEVE_REFUSED_NOT_A_RECORD = 1, /* A line isn't a HEX record */
+    BJORKNEVE_REFUSED_CHECKSUM = 2, /* A line's checksum is wrong */
+    BJORKNEVE_REFUSED_RECORD_NOT_TAKEN = 3, /* A record of a type, an address or a size that this reader doesn't take */
+    BJORKNEVE_REFUSED_TOO_LARGE = 4, /* The image in the text has more than 4,096 bytes, or more than the panel has lent for it */
+    BJORKNEVE_REFUSED_NOT_AN_IMAGE = 5, /* Not a calibration image */
+    BJORKNEVE_REFUSED_CONTENTS_COUNT = 6, /* The number of contents lines is 0 or above 16, or they don't fit in the image */
+    BJORKNEVE_REFUSED_CONTENTS_LINE = 7, /* A contents line is wrong */
+    BJORKNEVE_REFUSED_BODY_SUM = 8, /* A body's bytes don't add up to the sum in its contents line */
+    BJORKNEVE_REFUSED_UNKNOWN_KIND = 9, /* The image has a section that could change the reading and that this panel doesn't know */
+    BJORKNEVE_REFUSED_MISSING_KIND = 10, /* A section that every image must have is missing */
+    BJORKNEVE_REFUSED_IDENTITY = 11, /* The identity is wrong */
+    BJORKNEVE_REFUSED_PRESSURE_SET = 12, /* The pressure set is wrong */
+    BJORKNEVE_REFUSED_TEMPERATURE_SET = 13, /* The temperature set is wrong */
+    BJORKNEVE_REFUSED_TRIM = 15, /* The trim is wrong */
+    BJORKNEVE_REFUSED_NOTE = 16, /* The note is wrong */
+    BJORKNEVE_REFUSED_NO_ROOM = 17, /* The buffer for the text or the image is too short */
+    BJORKNEVE_REFUSED_BUILDER_LINES = 18, /* There is no contents line or more than 16, or the kinds don't rise strictly from 1 to 255 */
+    BJORKNEVE_REFUSED_BUILDER_LENGTHS = 19, /* The lengths don't add up to the bodies given, or the image would have more than 4,096 bytes */
+    BJORKNEVE_REFUSED_NO_SUCH_LEVEL = 20, /* The panel asked for a level that there isn't */
+    BJORKNEVE_REFUSED_SENSOR_CYCLES = 21, /* The number of sensor cycles is 0 or above 1,048,576 */
+    BJORKNEVE_REFUSED_REFERENCE_CYCLES = 22, /* The number of reference cycles is 0 */
+    BJORKNEVE_REFUSED_FREQUENCY = 23, /* The frequency lies outside 10,000 to 100,000 Hz */
+    BJORKNEVE_REFUSED_FAR_FROM_CALIBRATION = 24, /* A frequency lies too far from the one at which this gauge was calibrated */
+    BJORKNEVE_REFUSED_SUM_TOO_LARGE = 25, /* A sum on the way is larger than the panel works with */
+    BJORKNEVE_REFUSED_RESULT_TOO_LARGE = 26 /* The pressure or the temperature is larger than can be shown */
+};
 
 /* Number 0 for yes; else why not, by the refusal's number and detail. */
 typedef struct {
@@ -42,9 +94,31 @@ typedef struct {
     size_t length;
 } BjorknevePlace;
 
-/* Number 0 and a reading: pressure in 1/65,536 of the unit (1 psi, 2 bar, 3 kPa), temperature in 1/65,536 degrees Celsius, and
- * the mark, 1 where the temperature lies outside the gauge's limits plus 2 where the pressure does, in psi and before trim. Else
- * the refusal's number and detail, and 0 for each value. */
+/* Cycles that a gauge's sensor ran. */
+typedef struct {
+    uint64_t cycles;
+} BjorkneveSensorCycles;
+
+/* Cycles of the 7.2 MHz reference that were counted while the sensor ran its own. */
+typedef struct {
+    uint64_t cycles;
+} BjorkneveReferenceCycles;
+
+/* The counts of one sensor. They have types of their own, since a frequency is quietly wrong where they trade places. */
+typedef struct {
+    BjorkneveSensorCycles sensor;
+    BjorkneveReferenceCycles reference;
+} BjorkneveChannel;
+
+/* The counts of both sensors. */
+typedef struct {
+    BjorkneveChannel pressure;
+    BjorkneveChannel temperature;
+} BjorkneveCounts;
+
+/* Number 0 and a reading: pressure in 1/65,536 of the unit, temperature in 1/65,536 degrees Celsius, and the mark, the sum of
+ * BJORKNEVE_MARK_TEMPERATURE where the temperature lies outside the gauge's limits and BJORKNEVE_MARK_PRESSURE where the pressure
+ * does, in psi and before trim. Else the refusal's number and detail, and 0 for each value. */
 typedef struct {
     uint32_t number;
     uint64_t detail;
@@ -55,42 +129,42 @@ typedef struct {
 } BjorkneveAnswer;
 
 /* Reads a HEX text into the image. Refused 1 to 4, with the line in the text as the detail. */
-BjorkneveFilled bjorkneve_read(const uint8_t *text, size_t text_length, uint8_t *image, size_t image_length);
+BJORKNEVE_MUST_USE BjorkneveFilled bjorkneve_read(const uint8_t *text, size_t text_length, uint8_t *image, size_t image_length);
 
-/* Writes an image as a HEX text, which takes 11,276 bytes for the longest image. Refused 4 or 17. */
-BjorkneveFilled bjorkneve_write(const uint8_t *image, size_t image_length, uint8_t *text, size_t text_length);
+/* Writes an image as a HEX text, which takes BJORKNEVE_LONGEST_WRITTEN_TEXT bytes for the largest image. Refused 4 or 17. */
+BJORKNEVE_MUST_USE BjorkneveFilled bjorkneve_write(const uint8_t *image, size_t image_length, uint8_t *text, size_t text_length);
 
 /* Reads a HEX text into the image and judges it as a panel of this level does. Refused as by bjorkneve_read, then as by
  * bjorkneve_verdict. */
-BjorkneveFilled bjorkneve_load(const uint8_t *text, size_t text_length, uint32_t level, uint8_t *image, size_t image_length);
+BJORKNEVE_MUST_USE BjorkneveFilled bjorkneve_load(
+    const uint8_t *text, size_t text_length,
+    uint32_t level,
+    uint8_t *image, size_t image_length);
 
 /* Judges an image's layout, and not what its sections hold. Refused 5 to 8. */
-BjorkneveVerdict bjorkneve_layout(const uint8_t *image, size_t image_length);
+BJORKNEVE_MUST_USE BjorkneveVerdict bjorkneve_layout(const uint8_t *image, size_t image_length);
 
 /* Judges an image as a panel of this level does. Refused 20, then 5 to 13, 15 or 16. */
-BjorkneveVerdict bjorkneve_verdict(const uint8_t *image, size_t image_length, uint32_t level);
+BJORKNEVE_MUST_USE BjorkneveVerdict bjorkneve_verdict(const uint8_t *image, size_t image_length, uint32_t level);
 
 /* Finds the section of a kind. No kind is there in an image whose layout is refused. The body of kind 1 begins with the gauge's
  * serial number, 4 bytes, the lowest first. */
-BjorknevePlace bjorkneve_find(const uint8_t *image, size_t image_length, uint32_t kind);
+BJORKNEVE_MUST_USE BjorknevePlace bjorkneve_find(const uint8_t *image, size_t image_length, uint32_t kind);
 
 /* Builds an image of sections: section i has the kind kinds[i] and a body of lengths[i] bytes, and bodies are all of them joined.
  * Refused 18, 19 or 17; 18 too where kinds and lengths are not equally many. */
-BjorkneveFilled bjorkneve_build(
+BJORKNEVE_MUST_USE BjorkneveFilled bjorkneve_build(
     const uint32_t *kinds, size_t kinds_length,
     const size_t *lengths, size_t lengths_length,
     const uint8_t *bodies, size_t bodies_length,
     uint8_t *image, size_t image_length);
 
-/* Takes the reading of a panel of this level, by an image that is judged anew at each call. A channel has the cycles that its
- * sensor ran and the cycles of the 7.2 MHz reference that were counted meanwhile. Refused as by bjorkneve_verdict, then 21 to 26. */
-BjorkneveAnswer bjorkneve_reading(
+/* Takes the reading of a panel of this level, by an image that is judged anew at each call. Refused as by bjorkneve_verdict, then 21
+ * to 26. */
+BJORKNEVE_MUST_USE BjorkneveAnswer bjorkneve_reading(
     const uint8_t *image, size_t image_length,
     uint32_t level,
-    uint64_t pressure_sensor,
-    uint64_t pressure_reference,
-    uint64_t temperature_sensor,
-    uint64_t temperature_reference);
+    BjorkneveCounts counts);
 
 #ifdef __cplusplus
 }

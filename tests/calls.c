@@ -1,4 +1,5 @@
-/* Every call from C with nothing lent, with dirty buffers and with wrong numbers: each answers, and a refusal leaves zeros alone. */
+/* Every call from C with nothing lent, with dirty buffers and with wrong numbers: each answers, and a refusal leaves zeros alone. The
+ * header's names stand for what the library says. */
 #include "bjorkneve.h"
 #include <stdio.h>
 #include <string.h>
@@ -12,7 +13,7 @@ static void expect(int holds, const char *what) {
     }
 }
 
-static uint8_t buffer[5000];
+static uint8_t buffer[BJORKNEVE_LARGEST_IMAGE + 904];
 
 /* Lent with what an earlier load may have left in it. */
 static uint8_t *dirty(void) { return memset(buffer, 0xa5, sizeof buffer); }
@@ -33,10 +34,67 @@ static int withheld(BjorkneveAnswer answer, uint32_t number) {
            answer.mark == 0;
 }
 
-int main(void) {
+/* The limits, on both sides of each. */
+static void limits(void) {
+    static uint8_t image[BJORKNEVE_LARGEST_IMAGE + 1], text[BJORKNEVE_LONGEST_WRITTEN_TEXT];
+    BjorkneveFilled written = bjorkneve_write(image, BJORKNEVE_LARGEST_IMAGE, text, sizeof text);
+    expect(written.number == 0 && written.length == sizeof text, "the longest text");
+    expect(bjorkneve_read(text, sizeof text, image, sizeof image).length == BJORKNEVE_LARGEST_IMAGE, "the largest image");
+    written = bjorkneve_write(image, BJORKNEVE_LARGEST_IMAGE, text, sizeof text - 1);
+    expect(written.number == BJORKNEVE_REFUSED_NO_ROOM, "no room for the longest text");
+    written = bjorkneve_write(image, BJORKNEVE_LARGEST_IMAGE + 1, text, sizeof text);
+    expect(written.number == BJORKNEVE_REFUSED_TOO_LARGE, "an image that is too large");
+    expect(bjorkneve_verdict(NULL, 0, BJORKNEVE_LEVEL_1 - 1).number == BJORKNEVE_REFUSED_NO_SUCH_LEVEL, "no level below the first");
+    expect(bjorkneve_verdict(NULL, 0, BJORKNEVE_LEVEL_2).number == BJORKNEVE_REFUSED_NOT_AN_IMAGE, "the highest level");
+    expect(bjorkneve_verdict(NULL, 0, BJORKNEVE_LEVEL_2 + 1).number == BJORKNEVE_REFUSED_NO_SUCH_LEVEL, "no level above the last");
+}
+
+/* A reading of the trimmed example, built anew with this unit, this lowest pressure and this highest temperature. */
+static BjorkneveAnswer trimmed(const uint8_t *image, size_t length, uint8_t unit, uint16_t pmin, uint8_t tmax) {
+    static uint8_t bodies[BJORKNEVE_LARGEST_IMAGE], anew[BJORKNEVE_LARGEST_IMAGE];
+    const uint32_t kinds[] = {1, 2, 3, 4};
+    const BjorkneveCounts counts = {
+        .pressure = {.sensor = {10000}, .reference = {2847876}},
+        .temperature = {.sensor = {10000}, .reference = {1352875}},
+    };
+    size_t lengths[4], all = 0, trim = 0;
+    for (size_t i = 0; i < 4; i++) {
+        const BjorknevePlace place = bjorkneve_find(image, length, kinds[i]);
+        memcpy(bodies + all, image + place.offset, place.length);
+        trim = all;
+        all += lengths[i] = place.length;
+    }
+    bodies[12] = tmax;
+    bodies[16] = pmin & 255;
+    bodies[17] = (uint8_t)(pmin >> 8);
+    bodies[trim] = unit;
+    const BjorkneveFilled built = bjorkneve_build(kinds, 4, lengths, 4, bodies, all, anew, sizeof anew);
+    expect(built.number == 0, "the example built anew");
+    return bjorkneve_reading(anew, built.length, BJORKNEVE_LEVEL_2, counts);
+}
+
+/* The names of units, and the mark's bits: 2,989 psi and 60 degrees. */
+static void readings(const uint8_t *image, size_t length) {
+    static const struct { uint8_t unit; uint16_t pmin; uint8_t tmax, mark; } cases[] = {
+        {BJORKNEVE_UNIT_PSI, 2989, 61, 0},
+        {BJORKNEVE_UNIT_BAR, 2989, 60, BJORKNEVE_MARK_TEMPERATURE},
+        {BJORKNEVE_UNIT_KPA, 2990, 61, BJORKNEVE_MARK_PRESSURE},
+        {BJORKNEVE_UNIT_KPA, 2990, 60, BJORKNEVE_MARK_PRESSURE | BJORKNEVE_MARK_TEMPERATURE},
+    };
+    for (size_t i = 0; i < sizeof cases / sizeof cases[0]; i++) {
+        const BjorkneveAnswer answer = trimmed(image, length, cases[i].unit, cases[i].pmin, cases[i].tmax);
+        expect(answer.number == 0 && answer.unit == cases[i].unit && answer.mark == cases[i].mark, "unit and mark");
+    }
+    expect(trimmed(image, length, BJORKNEVE_UNIT_PSI - 1, 12, 175).number == BJORKNEVE_REFUSED_TRIM, "no unit below the first");
+    expect(trimmed(image, length, BJORKNEVE_UNIT_KPA + 1, 12, 175).number == BJORKNEVE_REFUSED_TRIM, "no unit above the last");
+}
+
+int main(int count, char **words) {
     static const uint8_t end[] = ":00000001FF\n", two[] = ":020000005101AC\n:00000001FF\n", image[] = {0x51, 0x01};
     const uint32_t kinds[] = {200, 201};
     const size_t lengths[] = {2, 0};
+    const BjorkneveChannel channel = {.sensor = {1}, .reference = {720}};
+    const BjorkneveCounts counts = {.pressure = channel, .temperature = channel}, none = {0};
 
     expect(bjorkneve_read(NULL, 0, NULL, 0).number == 1, "no text, no image");
     expect(bjorkneve_read(end, sizeof end - 1, NULL, 0).number == 0, "an empty image needs no room");
@@ -52,8 +110,8 @@ int main(void) {
     expect(bjorkneve_verdict(NULL, 0, 1).number == 5, "the verdict on nothing");
     expect(bjorkneve_verdict(NULL, 0, 0).number == 20, "level 0");
     expect(!bjorkneve_find(NULL, 0, 1).there, "a kind in nothing");
-    expect(withheld(bjorkneve_reading(NULL, 0, 1, 1, 720, 1, 720), 5), "a reading from nothing");
-    expect(withheld(bjorkneve_reading(image, 2, 257, 0, 0, 0, 0), 20), "a reading at level 257");
+    expect(withheld(bjorkneve_reading(NULL, 0, 1, counts), 5), "a reading from nothing");
+    expect(withheld(bjorkneve_reading(image, 2, 257, none), 20), "a reading at level 257");
     expect(bjorkneve_build(NULL, 0, NULL, 0, NULL, 0, NULL, 0).number == 18, "an image of nothing");
     expect(refused(bjorkneve_build(kinds, 2, lengths, 1, image, 2, dirty(), 4096), 18, 0, 4096), "a kind without a length");
     expect(refused(bjorkneve_build(kinds, 2, lengths, 2, image, 1, dirty(), 4096), 19, 0, 4096), "a body too short");
@@ -63,6 +121,14 @@ int main(void) {
     BjorknevePlace place = bjorkneve_find(buffer, 20, 201);
     expect(place.there && place.offset == 20 && place.length == 0, "an empty body is there");
     expect(!bjorkneve_find(buffer, 20, 456).there, "kind 456 is not kind 200");
+
+    limits();
+    FILE *file = count == 2 ? fopen(words[1], "rb") : NULL;
+    if (!file) return 2;
+    static uint8_t text[BJORKNEVE_LONGEST_SHOWN_TEXT], example[BJORKNEVE_LARGEST_IMAGE];
+    const size_t length = fread(text, 1, sizeof text, file);
+    fclose(file);
+    readings(example, bjorkneve_load(text, length, BJORKNEVE_LEVEL_2, example, sizeof example).length);
     if (!failed) puts("calls: every call answers as it should");
     return failed;
 }

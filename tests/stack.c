@@ -8,10 +8,16 @@
 
 enum { ROOM = 1 << 20, PAINT = 0xc3, MOST = 16 * 1024 };
 
-static uint8_t image[4096], other[4096], text[65536], written[65536];
+static uint8_t image[BJORKNEVE_LARGEST_IMAGE], other[BJORKNEVE_LARGEST_IMAGE];
+static uint8_t text[BJORKNEVE_LONGEST_SHOWN_TEXT], written[BJORKNEVE_LONGEST_WRITTEN_TEXT];
 static size_t image_length, text_length;
 static const uint32_t kinds[] = {1, 2};
 static const size_t lengths[] = {100, 100};
+static const BjorkneveCounts counts = {
+    .pressure = {.sensor = {10000}, .reference = {1800000}},
+    .temperature = {.sensor = {10000}, .reference = {1250000}},
+};
+static volatile uint32_t seen;
 static unsigned char *stack;
 static size_t deepest;
 
@@ -24,19 +30,19 @@ static void look(void *frame) {
 
 #define CALL(name, call) \
     static void *name(void *nothing) { \
-        call; \
+        seen = call; \
         look(__builtin_frame_address(0)); \
         return nothing; \
     }
-CALL(nothing, (void)0)
-CALL(load, bjorkneve_load(text, text_length, 2, other, sizeof other))
-CALL(read_text, bjorkneve_read(text, text_length, other, sizeof other))
-CALL(write_text, bjorkneve_write(image, image_length, written, sizeof written))
-CALL(layout, bjorkneve_layout(image, image_length))
-CALL(verdict, bjorkneve_verdict(image, image_length, 2))
-CALL(find, bjorkneve_find(image, image_length, 3))
-CALL(reading, bjorkneve_reading(image, image_length, 2, 10000, 1800000, 10000, 1250000))
-CALL(build, bjorkneve_build(kinds, 2, lengths, 2, image, 200, other, sizeof other))
+CALL(nothing, 0)
+CALL(load, bjorkneve_load(text, text_length, 2, other, sizeof other).number)
+CALL(read_text, bjorkneve_read(text, text_length, other, sizeof other).number)
+CALL(write_text, bjorkneve_write(image, image_length, written, sizeof written).number)
+CALL(layout, bjorkneve_layout(image, image_length).number)
+CALL(verdict, bjorkneve_verdict(image, image_length, 2).number)
+CALL(find, bjorkneve_find(image, image_length, 3).there)
+CALL(reading, bjorkneve_reading(image, image_length, 2, counts).number)
+CALL(build, bjorkneve_build(kinds, 2, lengths, 2, image, 200, other, sizeof other).number)
 
 static size_t taken(void *(*call)(void *)) {
     pthread_attr_t attributes;

@@ -15,12 +15,8 @@ ghost use Rattle.reading.specs.Told.{answerTold};
 ghost use Rattle.panel.specs.Verdict.{verdictOf};
 ghost use Rattle.panel.specs.Load.{loadText};
 ghost use Rattle.panel.specs.Reading.{readingOf};
-ghost use Rattle.bjorkneve.specs.Given.{countsGiven};
 use finder::ToldPlace;
-use reading::Channel;
 use reading::Counts;
-use reading::ReferenceCycles;
-use reading::SensorCycles;
 use reading::ToldAnswer;
 use refusals::ToldFilled;
 use refusals::ToldVerdict;
@@ -33,7 +29,7 @@ pub extern "C" fn bjorkneve_read(text: &[u8], image: &mut [u8]) -> ToldFilled
     refusals::tell_filled(hexread::read(text, image))
 }
 
-// Writes an image as a HEX text, which takes 11,276 bytes for the longest image. Refused 4 or 17.
+// Writes an image as a HEX text, which takes BJORKNEVE_LONGEST_WRITTEN_TEXT bytes for the largest image. Refused 4 or 17.
 #[no_mangle]
 pub extern "C" fn bjorkneve_write(image: &[u8], text: &mut [u8]) -> ToldFilled
     ensures { λ r. ⌜ ToldFills (writeImage (length (now (text .entry))) (now (image .entry))) (now (text .entry)) r (now (text .exit)) ⌝ }
@@ -89,28 +85,11 @@ pub extern "C" fn bjorkneve_build(
     refusals::tell_filled(builder::build_from_numbers(kinds, lengths, bodies, image))
 }
 
-// Takes the reading of a panel of this level, by an image that is judged anew at each call. A channel has the cycles that its
-// sensor ran and the cycles of the 7.2 MHz reference that were counted meanwhile. Refused as by bjorkneve_verdict, then 21 to 26.
+// Takes the reading of a panel of this level, by an image that is judged anew at each call. Refused as by bjorkneve_verdict, then 21
+// to 26.
 #[no_mangle]
-pub extern "C" fn bjorkneve_reading(
-    image: &[u8],
-    level: u32,
-    pressure_sensor: u64,
-    pressure_reference: u64,
-    temperature_sensor: u64,
-    temperature_reference: u64,
-) -> ToldAnswer
-    ensures { λ r. ⌜ r ≡ answerTold (readingOf level (now (image .entry)) (countsGiven «pressure_sensor» «pressure_reference» «temperature_sensor» «temperature_reference»)) ⌝ }
+pub extern "C" fn bjorkneve_reading(image: &[u8], level: u32, counts: Counts) -> ToldAnswer
+    ensures { λ r. ⌜ r ≡ answerTold (readingOf level (now (image .entry)) counts) ⌝ }
 {
-    let counts = Counts {
-        pressure: Channel {
-            sensor: SensorCycles(pressure_sensor),
-            reference: ReferenceCycles(pressure_reference),
-        },
-        temperature: Channel {
-            sensor: SensorCycles(temperature_sensor),
-            reference: ReferenceCycles(temperature_reference),
-        },
-    };
     reading::tell_answer(panel::reading(image, level, counts))
 }

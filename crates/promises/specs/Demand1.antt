@@ -38,7 +38,6 @@ use Rattle.panel.specs.Levels.{isLevel}
 use Rattle.panel.specs.Verdict.{verdictOf}
 use Rattle.panel.specs.Reading.{readingOf}
 use Rattle.panel.specs.Load.{loadText}
-use Rattle.bjorkneve.specs.Given.{countsGiven}
 use Rattle.hexread.proofs as hexread
 use Rattle.hexwrite.proofs as hexwrite
 use Rattle.layout.proofs as layout
@@ -243,16 +242,14 @@ pub bjorkneve-reading-answers : EveryCall bjorkneve.bjorkneve_reading.ended bjor
     (λ call r b.
     AnswersReading (call .arguments .1 .0) (now (call .arguments .0))
     (record {
-      pressureNS = call .arguments .1 .1 .0;
-      pressureNR = call .arguments .1 .1 .1 .0;
-      temperatureNS = call .arguments .1 .1 .1 .1 .0;
-      temperatureNR = call .arguments .1 .1 .1 .1 .1 .0;
+      pressureNS = call .arguments .1 .1 .0 .pressure .sensor .0;
+      pressureNR = call .arguments .1 .1 .0 .pressure .reference .0;
+      temperatureNS = call .arguments .1 .1 .0 .temperature .sensor .0;
+      temperatureNR = call .arguments .1 .1 .0 .temperature .reference .0;
     })
     (r .number) (r .detail) (r .pressure) (r .temperature) (r .unit) (r .mark))
 bjorkneve-reading-answers call r b learnt =
-    rw learnt
-    (reading-answer (call .arguments .1 .0) (now (call .arguments .0))
-    (countsGiven (call .arguments .1 .1 .0) (call .arguments .1 .1 .1 .0) (call .arguments .1 .1 .1 .1 .0) (call .arguments .1 .1 .1 .1 .1 .0)) _ refl)
+    rw learnt (reading-answer (call .arguments .1 .0) (now (call .arguments .0)) (call .arguments .1 .1 .0) _ refl)
 
 -- ---- no old image stays behind
 

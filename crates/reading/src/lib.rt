@@ -24,17 +24,23 @@ mod told;
 pub use told::ToldAnswer;
 pub use told::tell_answer;
 
-// Cycles of a gauge's sensor.
+// Cycles that a gauge's sensor ran.
+#[repr(C)]
 pub struct SensorCycles(pub u64);
 
-// Cycles of the 7.2 MHz reference, counted while the sensor ran its cycles.
+// Cycles of the 7.2 MHz reference that were counted while the sensor ran its own.
+#[repr(C)]
 pub struct ReferenceCycles(pub u64);
 
+// The counts of one sensor. They have types of their own, since a frequency is quietly wrong where they trade places.
+#[repr(C)]
 pub struct Channel {
     pub sensor: SensorCycles,
     pub reference: ReferenceCycles,
 }
 
+// The counts of both sensors.
+#[repr(C)]
 pub struct Counts {
     pub pressure: Channel,
     pub temperature: Channel,

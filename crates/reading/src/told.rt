@@ -3,9 +3,9 @@ ghost use mathlib.Core.Path.{_≡_};
 ghost use Rattle.reading.specs.Told.{answerTold};
 use crate::Answer;
 
-// Number 0 and a reading: pressure in 1/65,536 of the unit (1 psi, 2 bar, 3 kPa), temperature in 1/65,536 degrees Celsius, and
-// the mark, 1 where the temperature lies outside the gauge's limits plus 2 where the pressure does, in psi and before trim. Else
-// the refusal's number and detail, and 0 for each value.
+// Number 0 and a reading: pressure in 1/65,536 of the unit, temperature in 1/65,536 degrees Celsius, and the mark, the sum of
+// BJORKNEVE_MARK_TEMPERATURE where the temperature lies outside the gauge's limits and BJORKNEVE_MARK_PRESSURE where the pressure
+// does, in psi and before trim. Else the refusal's number and detail, and 0 for each value.
 #[repr(C)]
 pub struct ToldAnswer {
     pub number: u32,

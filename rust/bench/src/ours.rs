@@ -2,7 +2,7 @@
 
 use crate::inputs::Inputs;
 use crate::opaque::opaque;
-use bjorkneve::{Counts, Reading, Refusal};
+use bjorkneve::{Counts, Level, Reading, Refusal};
 
 pub fn read(inputs: &Inputs, image: &mut [u8]) -> u64 {
     filled(bjorkneve::read(opaque(&inputs.text), image))
@@ -28,30 +28,40 @@ pub fn layout(inputs: &Inputs, _: &mut [u8]) -> u64 {
 }
 
 pub fn verdict_typical(inputs: &Inputs, _: &mut [u8]) -> u64 {
-    judged(bjorkneve::verdict(opaque(&inputs.typical), opaque(1)))
+    judged(bjorkneve::verdict(
+        opaque(&inputs.typical),
+        opaque(Level::One),
+    ))
 }
 
 pub fn verdict_large(inputs: &Inputs, _: &mut [u8]) -> u64 {
-    judged(bjorkneve::verdict(opaque(&inputs.large), opaque(2)))
+    judged(bjorkneve::verdict(
+        opaque(&inputs.large),
+        opaque(Level::Two),
+    ))
 }
 
 pub fn reading_typical(inputs: &Inputs, _: &mut [u8]) -> u64 {
     let counts: Counts = opaque(inputs.our_counts);
     shown(bjorkneve::reading(
         opaque(&inputs.typical),
-        opaque(1),
+        opaque(Level::One),
         counts,
     ))
 }
 
 pub fn reading_large(inputs: &Inputs, _: &mut [u8]) -> u64 {
     let counts: Counts = opaque(inputs.our_counts);
-    shown(bjorkneve::reading(opaque(&inputs.large), opaque(2), counts))
+    shown(bjorkneve::reading(
+        opaque(&inputs.large),
+        opaque(Level::Two),
+        counts,
+    ))
 }
 
-fn filled(answer: Result<usize, Refusal>) -> u64 {
+fn filled(answer: Result<&[u8], Refusal>) -> u64 {
     match answer {
-        Ok(length) => length as u64,
+        Ok(part) => part.len() as u64,
         Err(refusal) => panic!("{:?}", refusal),
     }
 }

@@ -3,7 +3,7 @@
 use crate::lent::Lent;
 use crate::random::Random;
 use crate::tally::Answer;
-use bjorkneve::raw;
+use bjorkneve::{raw, Level};
 use std::fmt;
 use std::ops::Range;
 
@@ -63,7 +63,11 @@ impl Both {
             size,
             random,
             |image| raw::load(text, level, image),
-            |image| bjorkneve::load(text, level, image),
+            // the door has no other levels than the two
+            |image| match Level::try_from(level) {
+                Ok(level) => bjorkneve::load(text, level, image),
+                Err(_) => raw::load(text, level, image).part(image),
+            },
             |image| reference::load(text, level, image),
         )
     }
@@ -98,19 +102,25 @@ impl Both {
         size: usize,
         random: &mut Random,
         archive: impl FnOnce(&mut [u8]) -> raw::BjorkneveFilled,
-        door: impl FnOnce(&mut [u8]) -> Result<usize, bjorkneve::Refusal>,
+        door: impl FnOnce(&mut [u8]) -> Result<&[u8], bjorkneve::Refusal>,
         reference: impl FnOnce(&mut [u8]) -> Result<usize, reference::Refusal>,
     ) -> Answer<usize> {
         let dirt = random.byte() | 1;
         let told = archive(self.archive.lend(size, dirt));
-        let ours = door(self.door.lend(size, dirt ^ 0x42)).map_err(ours_refusal);
+        let lent = self.door.lend(size, dirt ^ 0x42);
+        let start = lent.as_ptr();
+        let part = door(lent).map_err(ours_refusal);
+        let ours = part.map(|part| {
+            assert_eq!(part.as_ptr(), start, "a part from elsewhere");
+            part.len()
+        });
         let theirs = reference(self.reference.lend(size, dirt ^ 0x84)).map_err(their_refusal);
 
         assert_eq!(ours, theirs, "ours, the reference's: size {size} {given}");
-        assert_eq!(told.answer().map_err(ours_refusal), ours);
+        let numbers = (told.number, told.detail, told.length);
         match ours {
-            Ok(_) => assert_eq!((told.number, told.detail), (0, 0)),
-            Err(_) => assert_eq!(told.length, 0, "a refusal with a length"),
+            Ok(length) => assert_eq!(numbers, (0, 0, length)),
+            Err((number, detail)) => assert_eq!(numbers, (number, detail, 0)),
         }
         let length = ours.unwrap_or(0);
         self.archive.check(length);
@@ -143,7 +153,7 @@ pub fn verdict(image: &[u8], level: u32) -> Answer<()> {
     judged(
         format_args!("level {level} image {}", Hex(image)),
         raw::verdict(image, level),
-        bjorkneve::verdict(image, level),
+        Level::try_from(level).and_then(|level| bjorkneve::verdict(image, level)),
         reference::verdict(image, level),
     )
 }
@@ -183,12 +193,13 @@ pub fn reading(image: &[u8], level: u32, counts: reference::Counts) -> Answer<re
         temperature: channel(counts.temperature),
     };
     let told = raw::reading(image, level, our_counts);
-    let ours = bjorkneve::reading(image, level, our_counts)
+    let ours = Level::try_from(level)
+        .and_then(|level| bjorkneve::reading(image, level, our_counts))
         .map(|reading| reference::Reading {
             pressure: reading.pressure,
             temperature: reading.temperature,
-            unit: reading.unit,
-            mark: reading.mark,
+            unit: reading.unit.into(),
+            mark: reading.mark.number(),
         })
         .map_err(ours_refusal);
     let theirs = reference::reading(image, level, counts).map_err(their_refusal);
@@ -232,6 +243,7 @@ fn judged(
 }
 
 fn ours_refusal(refusal: bjorkneve::Refusal) -> (u32, u64) {
+    assert!(refusal.what_happened().is_some(), "no words: {refusal}");
     (refusal.number, refusal.detail)
 }
 

@@ -1,7 +1,7 @@
 //! Empty slices wherever one can be given, also at the end of another slice,
 //! and empty parts of C callers that pass no address.
 
-use bjorkneve::raw;
+use bjorkneve::{raw, Channel, Counts, ReferenceCycles, SensorCycles};
 use compare::both::{find, layout, verdict, Both};
 use compare::run::start;
 use std::ptr::{null, null_mut};
@@ -64,7 +64,15 @@ fn no_address() {
         assert_eq!((place.there, place.offset, place.length), (false, 0, 0));
         let build = raw::bjorkneve_build(null(), 0, null(), 0, null(), 0, null_mut(), 0);
         assert_eq!((build.number, build.detail, build.length), (18, 0, 0));
-        let reading = raw::bjorkneve_reading(null(), 0, 1, 1, 720, 1, 720);
+        let channel = Channel {
+            sensor: SensorCycles(1),
+            reference: ReferenceCycles(720),
+        };
+        let counts = Counts {
+            pressure: channel,
+            temperature: channel,
+        };
+        let reading = raw::bjorkneve_reading(null(), 0, 1, counts);
         assert_eq!((reading.number, reading.detail), (5, 0));
     }
     assert_eq!(end, END);

@@ -1,7 +1,7 @@
 //! The structs the C functions give back, as in the header. Number 0 is
 //! success.
 
-use crate::{Reading, Refusal};
+use crate::{refused, Mark, Reading, Refusal, Unit};
 use core::ops::Range;
 
 /// A judgement.
@@ -46,6 +46,7 @@ pub struct BjorknevePlace {
     pub length: usize,
 }
 
+#[inline]
 fn judged(number: u32, detail: u64) -> Result<(), Refusal> {
     match number {
         0 => Ok(()),
@@ -55,32 +56,43 @@ fn judged(number: u32, detail: u64) -> Result<(), Refusal> {
 
 impl BjorkneveVerdict {
     /// As a result.
+    #[inline]
     pub fn answer(self) -> Result<(), Refusal> {
         judged(self.number, self.detail)
     }
 }
 
 impl BjorkneveFilled {
-    /// As a result.
-    pub fn answer(self) -> Result<usize, Refusal> {
-        judged(self.number, self.detail).map(|()| self.length)
+    /// As a result: the part of the lent buffer that was filled. The length is
+    /// never above the buffer's, so the cut changes nothing.
+    #[inline]
+    pub fn part(self, buffer: &[u8]) -> Result<&[u8], Refusal> {
+        judged(self.number, self.detail).map(|()| &buffer[..self.length.min(buffer.len())])
     }
 }
 
 impl BjorkneveAnswer {
-    /// As a result.
+    /// As a result. The library gives no other unit than the three; one that
+    /// isn't among them would be a wrong trim's, so that it is refused as one.
+    #[inline]
     pub fn answer(self) -> Result<Reading, Refusal> {
-        judged(self.number, self.detail).map(|()| Reading {
+        judged(self.number, self.detail)?;
+        let unit = Unit::of(self.unit).ok_or(Refusal {
+            number: refused::TRIM,
+            detail: 0,
+        })?;
+        Ok(Reading {
             pressure: self.pressure,
             temperature: self.temperature,
-            unit: self.unit,
-            mark: self.mark,
+            unit,
+            mark: Mark(self.mark),
         })
     }
 }
 
 impl BjorknevePlace {
     /// As a range; an end past the largest number is no place.
+    #[inline]
     pub fn range(self) -> Option<Range<usize>> {
         if !self.there {
             return None;

@@ -4,7 +4,7 @@
 
 use super::declarations as c;
 use super::{BjorkneveAnswer, BjorkneveFilled, BjorknevePlace, BjorkneveVerdict};
-use crate::{Channel, Counts, ReferenceCycles, SensorCycles};
+use crate::Counts;
 
 /// `bjorkneve_read`.
 #[inline]
@@ -81,24 +81,6 @@ pub fn build(kinds: &[u32], lengths: &[usize], bodies: &[u8], image: &mut [u8]) 
 /// `bjorkneve_reading`.
 #[inline]
 pub fn reading(image: &[u8], level: u32, counts: Counts) -> BjorkneveAnswer {
-    let Channel {
-        sensor: SensorCycles(pressure_sensor),
-        reference: ReferenceCycles(pressure_reference),
-    } = counts.pressure;
-    let Channel {
-        sensor: SensorCycles(temperature_sensor),
-        reference: ReferenceCycles(temperature_reference),
-    } = counts.temperature;
     // SAFETY: the pointer is good for reading the length beside it.
-    unsafe {
-        c::bjorkneve_reading(
-            image.as_ptr(),
-            image.len(),
-            level,
-            pressure_sensor,
-            pressure_reference,
-            temperature_sensor,
-            temperature_reference,
-        )
-    }
+    unsafe { c::bjorkneve_reading(image.as_ptr(), image.len(), level, counts) }
 }

@@ -1,6 +1,7 @@
 //! The functions of libbjorkneve.a, as in the header.
 
 use super::{BjorkneveAnswer, BjorkneveFilled, BjorknevePlace, BjorkneveVerdict};
+use crate::Counts;
 
 #[allow(missing_docs)]
 extern "C" {
@@ -48,9 +49,6 @@ extern "C" {
         image: *const u8,
         image_length: usize,
         level: u32,
-        pressure_sensor: u64,
-        pressure_reference: u64,
-        temperature_sensor: u64,
-        temperature_reference: u64,
+        counts: Counts,
     ) -> BjorkneveAnswer;
 }

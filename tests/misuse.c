@@ -1,0 +1,42 @@
+/* A right use of the header, and by name wrong ones that no compiler may pass over: tests/c compiles each, as C11 and as C++17. */
+#include "bjorkneve.h"
+
+BjorkneveAnswer used(const uint8_t *image, size_t length, BjorkneveSensorCycles sensor, BjorkneveReferenceCycles reference);
+
+BjorkneveAnswer used(const uint8_t *image, size_t length, BjorkneveSensorCycles sensor, BjorkneveReferenceCycles reference) {
+#if defined EXCHANGED_WHERE_LISTED
+    BjorkneveChannel channel = {reference, sensor};
+#else
+    BjorkneveChannel channel = {sensor, reference};
+#endif
+    BjorkneveCounts counts;
+#if defined EXCHANGED_WHERE_ASSIGNED
+    channel.sensor = reference;
+#else
+    channel.sensor = sensor;
+#endif
+    counts.pressure = channel;
+    counts.temperature = channel;
+#if defined ONE_CHANNEL_GIVEN
+    return bjorkneve_reading(image, length, BJORKNEVE_LEVEL_2, counts.pressure);
+#elif defined NUMBERS_GIVEN
+    return bjorkneve_reading(image, length, BJORKNEVE_LEVEL_2, sensor.cycles);
+#else
+    return bjorkneve_reading(image, length, BJORKNEVE_LEVEL_2, counts);
+#endif
+}
+
+#if defined DROPPED
+void dropped(uint8_t *bytes, size_t length, const uint32_t *kinds, const size_t *lengths, BjorkneveCounts counts);
+
+void dropped(uint8_t *bytes, size_t length, const uint32_t *kinds, const size_t *lengths, BjorkneveCounts counts) {
+    bjorkneve_read(NULL, 0, bytes, length);
+    bjorkneve_write(NULL, 0, bytes, length);
+    bjorkneve_load(NULL, 0, BJORKNEVE_LEVEL_2, bytes, length);
+    bjorkneve_layout(bytes, length);
+    bjorkneve_verdict(bytes, length, BJORKNEVE_LEVEL_2);
+    bjorkneve_find(bytes, length, 1);
+    bjorkneve_build(kinds, 1, lengths, 1, NULL, 0, bytes, length);
+    bjorkneve_reading(bytes, length, BJORKNEVE_LEVEL_2, counts);
+}
+#endif
