@@ -17,24 +17,31 @@ use Rattle.refusals.specs.FieldsVerdictLaws.{
 
 -- ---- numbers
 
-pub equal : (n k : ℕ) → n ≡ k → Wrong (eqb n k) false
-equal n k h = record { tells = sym (ap not (eq-eqb n k h)) }
+module _ (n k : ℕ) where
+  pub equal : n ≡ k → Wrong (eqb n k) false
+  equal h = record { tells = sym (ap not (eq-eqb n k h)) }
 
-pub unequal : (n k : ℕ) → (n ≡ k → ⊥) → Wrong (eqb n k) true
-unequal n k h = record { tells = sym (ap not (ne-eqb n k h)) }
+  pub unequal : (n ≡ k → ⊥) → Wrong (eqb n k) true
+  unequal h = record { tells = sym (ap not (ne-eqb n k h)) }
+
+  pub at-most : n ≤ k → Wrong (leb n k) false
+  at-most h = record { tells = sym (ap not (le-leb n k h)) }
+
+  pub more : k < n → Wrong (leb n k) true
+  more h = record { tells = sym (ap not (lt-leb n k h)) }
 
 module _ (x n k : ℕ) (e : x ≡ n) where
-  pub same : x ≡ k → Wrong (eqb n k) false
-  same h = equal n k (sym e ∙ h)
+  pub read-equal : x ≡ k → Wrong (eqb n k) false
+  read-equal h = equal n k (sym e ∙ h)
 
-  pub other : (x ≡ k → ⊥) → Wrong (eqb n k) true
-  other h = unequal n k (λ (f : n ≡ k). h (e ∙ f))
+  pub read-unequal : (x ≡ k → ⊥) → Wrong (eqb n k) true
+  read-unequal h = unequal n k (λ (f : n ≡ k). h (e ∙ f))
 
-  pub at-most : x ≤ k → Wrong (leb n k) false
-  at-most h = record { tells = sym (ap not (le-leb n k (rw e at h))) }
+  pub read-at-most : x ≤ k → Wrong (leb n k) false
+  read-at-most h = at-most n k (rw e at h)
 
-  pub more : k < x → Wrong (leb n k) true
-  more h = record { tells = sym (ap not (lt-leb n k (rw e at h))) }
+  pub read-more : k < x → Wrong (leb n k) true
+  read-more h = more n k (rw e at h)
 
 -- b is what a function of the code answered
 module _ (b told : Bool) where
@@ -67,7 +74,9 @@ above-told x y least greatest told e f h = record { tells = sym h ∙ rw (e, f) 
 
 -- ---- a body's fields one by one, and in a loop
 
-pub ruleset tests = (equal, unequal, same, other, at-most, more, outside-told, beyond-told, read-as, above-told)
+pub ruleset tests = (
+  equal, unequal, at-most, more, read-equal, read-unequal, read-at-most, read-more, outside-told, beyond-told, read-as, above-told
+)
 
 pub ruleset fields = (judged, field-right, field-wrong, fields-left, fields-end, tests)
 
