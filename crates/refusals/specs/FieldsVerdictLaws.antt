@@ -38,8 +38,9 @@ pub fields-end : {number : ℕ} → Judged number [] Accepted
 unfolding fieldsVerdict
 fields-end = record { so = refl }
 
--- ---- in a loop over fields that keep one rule: those before the i-th are right
+-- ---- in a loop over fields that keep one rule
 
+-- the fields before the i-th are right
 pub record RightBefore (number : ℕ) (rule : ℕ → Field) (count i : ℕ) : Type 0 where
   pub left : fieldsVerdict number (fieldsFrom rule (count - i) i) ≡ fieldsVerdict number (fieldsFrom rule count 0)
 
@@ -47,7 +48,10 @@ pub loop-first : (number : ℕ) (rule : ℕ → Field) (count : ℕ) → RightBe
 loop-first number rule count = record { left = rw (sub-zero count) refl }
 
 module _ (number : ℕ) (rule : ℕ → Field) (count i : ℕ) (before : RightBefore number rule count i) where
-  next : i < count → fieldsFrom rule (count - i) i ≡ rule i ∷ fieldsFrom rule (count - (i + 1)) (i + 1)
+  abbrev after : List Field
+  after = fieldsFrom rule (count - (i + 1)) (i + 1)
+
+  next : i < count → fieldsFrom rule (count - i) i ≡ rule i ∷ after
   unfolding fieldsFrom
   next h = let e : count - i ≡ suc (count - (i + 1)) = omega arith in rw e
 
@@ -56,8 +60,7 @@ module _ (number : ℕ) (rule : ℕ → Field) (count i : ℕ) (before : RightBe
 
   pub loop-right : i < count → Wrong (rule i .right) false → RightBefore number rule count (i + 1)
   loop-right h w =
-      let past : Judged number (rule i ∷ fieldsFrom rule (count - (i + 1)) (i + 1)) (fieldsVerdict number (fieldsFrom rule (count - (i + 1)) (i + 1)))
-            = field-right w (record { so = refl }) in
+      let past : Judged number (rule i ∷ after) (fieldsVerdict number after) = field-right w (fields-left refl) in
       record { left = past .so ∙ rw (next h) at (before .left) }
 
   pub loop-wrong : {verdict : Verdict} → i < count → Wrong (rule i .right) true → verdict ≡ refusedAt number (rule i .place)

@@ -1,4 +1,5 @@
--- What a test in the code tells of a field: x is what the code read, and the field is defined of n, or of z where it is signed.
+-- What a test in the code tells of a field: x is what the code read, and the field is defined of n, or of z where it is signed;
+-- and the rules by which a search goes through a body's fields.
 use mathlib.Core.Path.{_≡_, sym, ap, _∙_}
 use mathlib.Core.Bool.{Bool, true, false, not, _&&_}
 use Prim.Native.Nat.{ℕ, _^_, _≤_, _<_}
@@ -12,7 +13,16 @@ use Rattle.laws.specs.Cases.{both-left, both-right}
 use Rattle.laws.specs.Order.{less-otherwiseℤ}
 use Rattle.laws.specs.Pattern.{read-back}
 use Rattle.refusals.specs.FieldsVerdictLaws.{
-  Wrong, judged, field-right, field-wrong, fields-left, fields-end, loop-first, loop-right, loop-wrong, loop-end
+  Wrong,
+  judged,
+  field-right,
+  field-wrong,
+  fields-left,
+  fields-end,
+  loop-first,
+  loop-right,
+  loop-wrong,
+  loop-end,
 }
 
 -- ---- numbers
@@ -72,12 +82,24 @@ read-as w x z h e = read-back w x h ∙ e
 pub above-told : (x y least greatest : ℤ) (told : Bool) → x ≡ least → y ≡ greatest → ltZ y x ≡ told → Wrong (leZ least greatest) told
 above-told x y least greatest told e f h = record { tells = sym h ∙ rw (e, f) (less-otherwiseℤ least greatest) }
 
--- ---- a body's fields one by one, and in a loop
+-- ---- what a proof about a body's fields cites
 
 pub ruleset tests = (
-  equal, unequal, at-most, more, read-equal, read-unequal, read-at-most, read-more, outside-told, beyond-told, read-as, above-told
+  equal,
+  unequal,
+  at-most,
+  more,
+  read-equal,
+  read-unequal,
+  read-at-most,
+  read-more,
+  outside-told,
+  beyond-told,
+  read-as,
+  above-told,
 )
 
+-- where they are judged one by one, and where in a loop
 pub ruleset fields = (judged, field-right, field-wrong, fields-left, fields-end, tests)
 
 pub ruleset loop = (judged, loop-first, loop-right, loop-wrong, loop-end, tests)

@@ -17,7 +17,13 @@ use Rattle.refusals.specs.FieldsVerdictLaws.{Wrong, Judged}
 use Rattle.refusals.specs.TestsLaws.{equal, unequal}
 use Rattle.sets.specs.declared.Set.{Set}
 use Rattle.sets.specs.Set.{
-  setOf, pressureOrder, temperatureOrder, coefficientCount, coefficientFields, multiplierRight, offsetRight
+  setOf,
+  pressureOrder,
+  temperatureOrder,
+  coefficientCount,
+  coefficientFields,
+  multiplierRight,
+  offsetRight,
 }
 use Rattle.sets.specs.SetAsked.{Ordered}
 
@@ -25,8 +31,8 @@ pub set-read : (body : List ℕ) {np mp fp nt mt ft : ℕ}
     → np ≡ pressureOrder body → mp ≡ numberAt 4 body 4 → fp ≡ numberAt 8 body 8
     → nt ≡ temperatureOrder body → mt ≡ numberAt 4 body 16 → ft ≡ numberAt 8 body 20
     → _≡_ {A = Set}
-      (record { pressure = record { order = np; multiplier = mp; offset = fp }; temperature = record { order = nt; multiplier = mt; offset = ft } })
-      (setOf body)
+    (record { pressure = record { order = np; multiplier = mp; offset = fp }; temperature = record { order = nt; multiplier = mt; offset = ft } })
+    (setOf body)
 unfolding setOf
 set-read body a b c d e f = rw (a, b, c, d, e, f)
 

@@ -19,7 +19,7 @@ refused-at-requires c κs = search needs
 
 returns : tie.Need-returns
 unfolding identityFields
-returns c = search (fields, days-of) depth 12
+returns c = search fields
 
 number1-requires : tie.Need-number1-requires
 number1-requires c κs = search needs
@@ -35,7 +35,7 @@ refused-at-requires-2 c κs = search needs
 
 returns-2 : tie.Need-returns-2
 unfolding identityFields
-returns-2 c = search (fields, days-of) depth 12
+returns-2 c = search fields depth 8
 
 number1-requires-2 : tie.Need-number1-requires-2
 number1-requires-2 c κs = search needs
