@@ -5,7 +5,7 @@ use mathlib.Core.Logic.{_⊎_, inl, inr, ⊎-elim}
 use mathlib.Core.Path.{_≡_, refl, sym}
 use Prim.Native.Nat.{ℕ, zero, suc, _+_, _-_, _*_, _%_, _^_, _≤_, _<_}
 use native.Mathlib.Omega.{arith}
-use borrow.Author.Tests.{leb-true, eqb-true, eqb-false}
+use borrow.Author.Tests.{leb-true, leb-false, eqb-true, eqb-false}
 use lib.Dec.{T, leb, eqb, eqb→eq}
 use lib.ListN.{length, getD}
 use Rattle.paper.specs.Words.{Not, Outside, Beyond}
@@ -16,10 +16,29 @@ use Rattle.laws.specs.Tables.{every, entry}
 use Rattle.numbers.specs.Fields.{numberAt, signedAt}
 use Rattle.bodies.specs.Identity.{leapYear, monthLengths, daysIn, identityFields, identityVerdict}
 use Rattle.bodies.specs.Trim.{trimFields, trimVerdict}
-use Rattle.bodies.specs.Note.{characterFields, noteFields, noteVerdict}
-use Rattle.sets.specs.Set.{coefficientAt, coefficientFields, multiplierRight, offsetRight, setFields, setVerdict}
+use Rattle.bodies.specs.Note.{characterField, characterFields, noteFields, noteVerdict}
+use Rattle.sets.specs.Set.{coefficientAt, coefficientField, coefficientFields, multiplierRight, offsetRight, setFields, setVerdict}
 use Rattle.agreement.specs.TableLaws.{Judges}
-use Rattle.agreement.specs.TestsLaws.{Fails, fails-le, fails-eq, fails-leℤ, fails-beyond, fails-and, fails-last, fails-as, fails-outside, Passes, passes-eq, passes-or, passes-and, passes-not, all, fields-judge}
+use Rattle.agreement.specs.TestsLaws.{
+  Fails,
+  fails-le,
+  fails-eq,
+  fails-leℤ,
+  fails-beyond,
+  fails-and,
+  fails-early,
+  fails-last,
+  fails-as,
+  fails-outside,
+  Passes,
+  passes-eq,
+  passes-or,
+  passes-and,
+  passes-not,
+  all,
+  fields-judge,
+  rule-fails,
+}
 use Rattle.agreement.specs.FieldsAgree.{number-same, signed-same}
 
 -- ---- 1, identity
@@ -120,17 +139,11 @@ prescale-fails order multiplier offset =
 fails-two : (a b : Bool) {c : Bool} {P Q : Type 0} → Fails (a && b) P → Fails c Q → Fails (a && (b && c)) (P ⊎ Q)
 fails-two a b {c} f g = rw (← and-assoc a b c) (fails-and f g)
 
-coefficients-fail : (body : List ℕ) (left i : ℕ)
-    → Fails (all (coefficientFields body left i)) ((j : ℕ) × (i ≤ j) × (j < i + left) × Beyond (2 ^ 34) (coefficientAt body j))
-unfolding coefficientFields
-coefficients-fail body zero i = record { bad = λ e. never (sym e); good = λ e h. omega (arith, h .1, h .2) }
-coefficients-fail body (suc left) i =
-    fails-as
-    (⊎-elim (λ p. (i, omega arith, omega arith, p)) (λ r. (r .0, omega (arith, r .1), omega (arith, r .2), r .3)))
-    (λ h. split (h .0) i
-    (λ (k : h .0 ≤ i). let e : h .0 ≡ i = omega (arith, h .1) in inl (rw e at (h .3)))
-    (λ (k : i < h .0). inr (h .0, omega arith, omega (arith, h .2), h .3)))
-    (fails-and (fails-beyond (2 ^ 34) (coefficientAt body i)) (coefficients-fail body left (i + 1)))
+coefficients-fail : (body : List ℕ) (count : ℕ)
+    → Fails (all (coefficientFields body count)) ((i : ℕ) × (i < count) × Beyond (2 ^ 34) (coefficientAt body i))
+coefficients-fail body count =
+    fails-as (λ h. (h .0, omega (arith, h .2), h .3)) (λ h. (h .0, omega arith, omega (arith, h .1), h .2))
+    (rule-fails (coefficientField body) (λ i. Beyond (2 ^ 34) (coefficientAt body i)) (λ i. fails-beyond (2 ^ 34) (coefficientAt body i)) count 0)
 
 pub set-judges : (number : ℕ) (body : List ℕ) → Judges (row number 0 (SetWrong body)) (setVerdict number body)
 unfolding setFields
@@ -144,14 +157,14 @@ set-judges number body =
     let count = (np + 1) * (nt + 1) in
     rw (number-same, signed-same)
     (fields-judge number (setFields body)
+    (fails-early (λ e. let short = leb-false 4 (length body) e in inr (inr (inr (inr (inl (λ h. omega (arith, h)))))))
     (fails-and (fails-eq (numberAt 1 body 0) 1)
     (fails-and (fails-eq (numberAt 1 body 1) 1)
     (fails-and (fails-le np 4)
     (fails-and (fails-le nt 4)
     (fails-and (fails-eq (length body) (28 + 8 * count))
     (fails-two (multiplierRight np mp) (offsetRight np fp) (prescale-fails np mp fp)
-    (fails-two (multiplierRight nt mt) (offsetRight nt ft) (prescale-fails nt mt ft)
-    (fails-as (λ h. (h .0, omega (arith, h .2), h .3)) (λ h. (h .0, omega arith, omega (arith, h .1), h .2)) (coefficients-fail body count 0))))))))))
+    (fails-two (multiplierRight nt mt) (offsetRight nt ft) (prescale-fails nt mt ft) (coefficients-fail body count))))))))))
 
 -- ---- 4, trim
 
@@ -170,21 +183,10 @@ trim-judges body =
 
 -- ---- 129, note
 
-abbrev CharacterWrong : List ℕ → Type 0
-CharacterWrong body = (i : ℕ) × (i < length body) × Outside 32 126 (getD body i 0)
-
-characters-fail : (body : List ℕ) → Fails (all (characterFields body)) (CharacterWrong body)
-unfolding characterFields
-characters-fail [] = record { bad = λ e. never (sym e); good = λ e h. omega (arith, h .1) }
-characters-fail (b ∷ body) =
-    fails-as
-    (⊎-elim (λ p. (0, omega arith, p)) (λ r. (suc (r .0), omega (arith, r .1), r .2)))
-    back
-    (fails-and (fails-outside 32 126 b) (characters-fail body))
-  where
-    back : CharacterWrong (b ∷ body) → Outside 32 126 b ⊎ CharacterWrong body
-    back (zero, h, p) = inl p
-    back (suc i, h, p) = inr (i, omega arith, p)
+characters-fail : (body : List ℕ) → Fails (all (characterFields body)) ((i : ℕ) × (i < length body) × Outside 32 126 (getD body i 0))
+characters-fail body =
+    fails-as (λ h. (h .0, omega (arith, h .2), h .3)) (λ h. (h .0, omega arith, omega (arith, h .1), h .2))
+    (rule-fails (characterField body) (λ i. Outside 32 126 (getD body i 0)) (λ i. fails-outside 32 126 (getD body i 0)) (length body) 0)
 
 pub note-judges : (body : List ℕ) → Judges (row 16 0 (NoteWrong body)) (noteVerdict body)
 unfolding noteFields

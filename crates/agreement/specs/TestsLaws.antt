@@ -3,7 +3,7 @@ use mathlib.Core.Bool.{Bool, true, false, not, _&&_, _||_}
 use mathlib.Core.List.{List, [], _∷_}
 use mathlib.Core.Logic.{_⊎_, inl, inr, ⊎-elim}
 use mathlib.Core.Path.{_≡_, refl, sym}
-use Prim.Native.Nat.{ℕ, _≤_, _<_}
+use Prim.Native.Nat.{ℕ, zero, suc, _+_, _≤_, _<_}
 use native.Mathlib.Omega.{arith}
 use borrow.Author.Tests.{ltb-true, ltb-false, leb-true, leb-false, eqb-true, eqb-false}
 use lib.Dec.{T, leb, ltb, eqb}
@@ -11,11 +11,12 @@ use lib.IntN.{ℤ, pos, negℤ, natAbs}
 use lib.Signed.{leZ, ltZ, _≤ℤ_, _<ℤ_}
 use Rattle.paper.specs.Words.{Not, Outside, Beyond}
 use Rattle.paper.specs.Table.{row}
-use Rattle.laws.specs.Cases.{decide, never}
+use Rattle.laws.specs.Cases.{split, decide, never}
 use Rattle.laws.specs.Order.{less-otherwiseℤ, far-below, far-above}
 use Rattle.refusals.specs.declared.Verdict.{Verdict}
 use Rattle.refusals.specs.declared.Verdict.the-variants.{Accepted, Refused}
-use Rattle.refusals.specs.Refusals.{ask, fieldsVerdict}
+use Rattle.refusals.specs.Refusals.{ask}
+use Rattle.refusals.specs.FieldsVerdict.{Field, fieldsVerdict, fieldsFrom}
 use Rattle.agreement.specs.TableLaws.{Judges}
 
 -- ---- orders of signed numbers and their tests
@@ -74,6 +75,11 @@ pub fails-and : {a b : Bool} {P Q : Type 0} → Fails a P → Fails b Q → Fail
 fails-and {a = true} f g = record { bad = λ e. inr (g .bad e); good = λ e. ⊎-elim (f .good refl) (g .good e) }
 fails-and {a = false} f g = record { bad = λ e. inl (f .bad refl); good = λ e. never e }
 
+-- a test that fails only where P holds anyway, and the test of P
+pub fails-early : {a b : Bool} {P : Type 0} → (a ≡ false → P) → Fails b P → Fails (a && b) P
+fails-early {a = true} f g = g
+fails-early {a = false} f g = record { bad = λ e. f refl; good = λ e. never e }
+
 pub fails-last : {a : Bool} {P : Type 0} → Fails a P → Fails (a && true) P
 fails-last {a = true} f = f
 fails-last {a = false} f = f
@@ -127,15 +133,27 @@ judges-as number detail f g (Refused r) j = (j .0, (j .1 .0, f (j .1 .1)))
 
 -- ---- a body's fields
 
-abbrev pub all : List Bool → Bool
+abbrev pub all : List Field → Bool
 all [] = true
-all (b ∷ bs) = b && all bs
+all (f ∷ fields) = f .right && all fields
 
-fields-asked : (number : ℕ) (fields : List Bool) → fieldsVerdict number fields ≡ ask (all fields) number 0
+fields-asked : (number : ℕ) (fields : List Field) → fieldsVerdict number fields ≡ ask (all fields) number 0
 unfolding fieldsVerdict
 fields-asked number [] = refl
-fields-asked number (true ∷ fields) = fields-asked number fields
-fields-asked number (false ∷ fields) = refl
+fields-asked number (f ∷ fields) = decide (f .right) (λ e. rw e (fields-asked number fields)) (λ e. rw e)
 
-pub fields-judge : (number : ℕ) {P : Type 0} (fields : List Bool) → Fails (all fields) P → Judges (row number 0 P) (fieldsVerdict number fields)
+pub fields-judge : (number : ℕ) {P : Type 0} (fields : List Field) → Fails (all fields) P → Judges (row number 0 P) (fieldsVerdict number fields)
 fields-judge number fields f = rw (fields-asked number fields) (ask-judges number 0 (all fields) f)
+
+-- fields that keep one rule: one of them fails it
+pub rule-fails : (rule : ℕ → Field) (P : ℕ → Type 0) → ((i : ℕ) → Fails (rule i .right) (P i)) → (left i : ℕ)
+    → Fails (all (fieldsFrom rule left i)) ((j : ℕ) × (i ≤ j) × (j < i + left) × P j)
+unfolding fieldsFrom
+rule-fails rule P each zero i = record { bad = λ e. never (sym e); good = λ e h. omega (arith, h .1, h .2) }
+rule-fails rule P each (suc left) i =
+    fails-as
+    (⊎-elim (λ p. (i, omega arith, omega arith, p)) (λ r. (r .0, omega (arith, r .1), omega (arith, r .2), r .3)))
+    (λ h. split (h .0) i
+    (λ (k : h .0 ≤ i). let e : h .0 ≡ i = omega (arith, h .1) in inl (rw e at (h .3)))
+    (λ (k : i < h .0). inr (h .0, omega arith, omega (arith, h .2), h .3)))
+    (fails-and (each i) (rule-fails rule P each left (i + 1)))

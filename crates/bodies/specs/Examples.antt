@@ -5,7 +5,8 @@ use Prim.Native.Nat.{ℕ, _/_, _%_}
 use lib.ListN.{replicate}
 use Rattle.numbers.specs.Fields.{littleEndian, numberAt, twosComplement}
 use Rattle.refusals.specs.declared.Verdict.the-variants.{Accepted, Refused}
-use Rattle.refusals.specs.Refusals.{refusal, fieldsVerdict}
+use Rattle.refusals.specs.Refusals.{refusal}
+use Rattle.refusals.specs.FieldsVerdict.{fieldsVerdict}
 use Rattle.bodies.specs.Identity.{daysIn, identityFields, identityVerdict}
 
 -- serial 7, 29 February of the year, all limits 0

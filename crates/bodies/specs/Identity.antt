@@ -7,7 +7,7 @@ use lib.ListN.{length, getD}
 use lib.Signed.{leZ}
 use Rattle.numbers.specs.Fields.{numberAt, signedAt}
 use Rattle.refusals.specs.declared.Verdict.{Verdict}
-use Rattle.refusals.specs.Refusals.{fieldsVerdict}
+use Rattle.refusals.specs.FieldsVerdict.{Field, field, fieldsVerdict}
 use Rattle.bodies.specs.declared.Identity.{Identity}
 
 -- what it says
@@ -34,15 +34,15 @@ monthLengths year = 31 ∷ cond (leapYear year) 29 28 ∷ 31 ∷ 30 ∷ 31 ∷ 3
 unfoldable pub daysIn : (year month : ℕ) → ℕ
 daysIn year month = getD (monthLengths year) (month - 1) 0
 
--- any serial passes
-unfoldable pub identityFields : List ℕ → List Bool
+-- any serial passes; a minimum above its maximum is told at the maximum
+unfoldable pub identityFields : List ℕ → List Field
 identityFields body =
-    eqb (length body) 24
-    ∷ (leb 1980 (numberAt 2 body 4) && leb (numberAt 2 body 4) 2099)
-    ∷ (leb 1 (numberAt 1 body 6) && leb (numberAt 1 body 6) 12)
-    ∷ (leb 1 (numberAt 1 body 7) && leb (numberAt 1 body 7) (daysIn (numberAt 2 body 4) (numberAt 1 body 6)))
-    ∷ leZ (signedAt 4 body 8) (signedAt 4 body 12)
-    ∷ leZ (signedAt 4 body 16) (signedAt 4 body 20)
+    field (length body) (eqb (length body) 24)
+    ∷ field 4 (leb 1980 (numberAt 2 body 4) && leb (numberAt 2 body 4) 2099)
+    ∷ field 6 (leb 1 (numberAt 1 body 6) && leb (numberAt 1 body 6) 12)
+    ∷ field 7 (leb 1 (numberAt 1 body 7) && leb (numberAt 1 body 7) (daysIn (numberAt 2 body 4) (numberAt 1 body 6)))
+    ∷ field 12 (leZ (signedAt 4 body 8) (signedAt 4 body 12))
+    ∷ field 20 (leZ (signedAt 4 body 16) (signedAt 4 body 20))
     ∷ []
 
 abbrev pub identityVerdict : List ℕ → Verdict

@@ -12,7 +12,9 @@ use Rattle.bodies.specs.Identity.{identityOf, leapYear, daysIn}
 pub identity-read : (body : List ℕ) {serial year month day : ℕ} {tmin tmax pmin pmax : ℤ}
     → serial ≡ numberAt 4 body 0 → year ≡ numberAt 2 body 4 → month ≡ numberAt 1 body 6 → day ≡ numberAt 1 body 7
     → tmin ≡ signedAt 4 body 8 → tmax ≡ signedAt 4 body 12 → pmin ≡ signedAt 4 body 16 → pmax ≡ signedAt 4 body 20
-    → _≡_ {A = Identity} (record { serial = serial; year = year; month = month; day = day; tmin = tmin; tmax = tmax; pmin = pmin; pmax = pmax }) (identityOf body)
+    → _≡_ {A = Identity}
+    (record { serial = serial; year = year; month = month; day = day; tmin = tmin; tmax = tmax; pmin = pmin; pmax = pmax })
+    (identityOf body)
 unfolding identityOf
 identity-read body a b c d e f g h = rw (a, b, c, d, e, f, g, h)
 

@@ -3,5 +3,4 @@ pub mod Trim
 pub mod Note
 pub mod IdentityLaws
 pub mod TrimLaws
-pub mod NoteLaws
 pub mod Examples

@@ -4,12 +4,14 @@ use numbers::fields::number2;
 use numbers::fields::number4;
 use numbers::fields::signed4;
 use refusals::Verdict;
-use refusals::refused;
+use refusals::refused_at;
 use whole::outside;
 ghost use mathlib.Core.Path.{_≡_};
 ghost use mathlib.Core.Bool.{cond};
 ghost use Prim.Native.Nat.{_≤_};
-ghost use Rattle.bodies.specs.Identity.{identityOf, identityVerdict, leapYear, daysIn};
+ghost use lib.ListN.{drop};
+ghost use Rattle.refusals.specs.FieldsVerdict.{fieldsVerdict};
+ghost use Rattle.bodies.specs.Identity.{identityOf, identityFields, identityVerdict, leapYear, daysIn};
 
 pub fn read_identity(body: &[u8]) -> Identity
     ensures { λ r. ⌜ r ≡ identityOf (now (body .entry)) ⌝ }
@@ -31,28 +33,42 @@ pub fn identity_verdict(body: &[u8]) -> Verdict
     ensures { λ r. ⌜ r ≡ identityVerdict (now (body .entry)) ⌝ }
 {
     if body.len() != 24 {
-        return refused(11, 0);
+        return refused_at(11, body.len());
     }
+    date_verdict(body)
+}
+
+// The fields after the length.
+fn date_verdict(body: &[u8]) -> Verdict
+    ensures { λ r. ⌜ r ≡ fieldsVerdict 11 (drop 1 (identityFields (now (body .entry)))) ⌝ }
+{
     let year = number2(body, 4);
     if outside(1980, year as u64, 2099) {
-        return refused(11, 0);
+        return refused_at(11, 4);
     }
     let month = number1(body, 6);
     if outside(1, month as u64, 12) {
-        return refused(11, 0);
+        return refused_at(11, 6);
     }
     if outside(1, number1(body, 7) as u64, days_in(year, month) as u64) {
-        return refused(11, 0);
+        return refused_at(11, 7);
     }
+    limits_verdict(body)
+}
+
+// The fields after the date.
+fn limits_verdict(body: &[u8]) -> Verdict
+    ensures { λ r. ⌜ r ≡ fieldsVerdict 11 (drop 4 (identityFields (now (body .entry)))) ⌝ }
+{
     let tmin = signed4(body, 8);
     let tmax = signed4(body, 12);
     if tmax < tmin {
-        return refused(11, 0);
+        return refused_at(11, 12);
     }
     let pmin = signed4(body, 16);
     let pmax = signed4(body, 20);
     if pmax < pmin {
-        return refused(11, 0);
+        return refused_at(11, 20);
     }
     Verdict::Accepted
 }

@@ -1,15 +1,15 @@
 use refusals::Verdict;
-use refusals::refused;
+use refusals::refused_at;
 use whole::outside;
 ghost use mathlib.Core.Path.{_≡_};
-ghost use Rattle.refusals.specs.Refusals.{fieldsVerdict};
+ghost use Rattle.refusals.specs.FieldsVerdict.{fieldsVerdict};
 ghost use Rattle.bodies.specs.Note.{characterFields, noteVerdict};
 
 pub fn note_verdict(body: &[u8]) -> Verdict
     ensures { λ r. ⌜ r ≡ noteVerdict (now (body .entry)) ⌝ }
 {
     if outside(1, body.len() as u64, 64) {
-        return refused(16, 0);
+        return refused_at(16, body.len());
     }
     characters_verdict(body)
 }
@@ -20,7 +20,7 @@ fn characters_verdict(body: &[u8]) -> Verdict
     let mut i: usize = 0;
     while i < body.len() {
         if outside(32, body[i] as u64, 126) {
-            return refused(16, 0);
+            return refused_at(16, i);
         }
         i += 1;
     }

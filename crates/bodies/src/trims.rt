@@ -3,11 +3,13 @@ use numbers::fields::number1;
 use numbers::fields::number4;
 use numbers::fields::signed8;
 use refusals::Verdict;
-use refusals::refused;
+use refusals::refused_at;
 use whole::beyond;
 use whole::outside;
 ghost use mathlib.Core.Path.{_≡_};
-ghost use Rattle.bodies.specs.Trim.{trimOf, trimVerdict};
+ghost use lib.ListN.{drop};
+ghost use Rattle.refusals.specs.FieldsVerdict.{fieldsVerdict};
+ghost use Rattle.bodies.specs.Trim.{trimOf, trimFields, trimVerdict};
 
 pub fn read_trim(body: &[u8]) -> Trim
     ensures { λ r. ⌜ r ≡ trimOf (now (body .entry)) ⌝ }
@@ -24,25 +26,32 @@ pub fn trim_verdict(body: &[u8]) -> Verdict
     ensures { λ r. ⌜ r ≡ trimVerdict (now (body .entry)) ⌝ }
 {
     if body.len() != 16 {
-        return refused(15, 0);
+        return refused_at(15, body.len());
     }
     if outside(1, number1(body, 0) as u64, 3) {
-        return refused(15, 0);
+        return refused_at(15, 0);
     }
     if number1(body, 1) != 0 {
-        return refused(15, 0);
+        return refused_at(15, 1);
     }
     if number1(body, 2) != 0 {
-        return refused(15, 0);
+        return refused_at(15, 2);
     }
     if number1(body, 3) != 0 {
-        return refused(15, 0);
+        return refused_at(15, 3);
     }
+    amounts_verdict(body)
+}
+
+// The fields after the zero bytes: span and zero.
+fn amounts_verdict(body: &[u8]) -> Verdict
+    ensures { λ r. ⌜ r ≡ fieldsVerdict 15 (drop 5 (trimFields (now (body .entry)))) ⌝ }
+{
     if outside(1, number4(body, 4) as u64, 2147483648) {
-        return refused(15, 0);
+        return refused_at(15, 4);
     }
     if beyond(signed8(body, 8), 1099511627776) {
-        return refused(15, 0);
+        return refused_at(15, 8);
     }
     Verdict::Accepted
 }

@@ -86,6 +86,9 @@ clear-from-determined _ _ _ _ _ _ p q = first (refl, determined p q)
 pub refused-determined : Determines refusals.refused.ended refusals.refused.Reads.Learnt
 refused-determined _ _ _ _ _ _ = answers
 
+pub refused-at-determined : Determines refusals.refused_at.ended refusals.refused_at.Reads.Learnt
+refused-at-determined _ _ _ _ _ _ = answers
+
 pub tell-verdict-determined : Determines refusals.tell_verdict.ended refusals.tell_verdict.Reads.Learnt
 tell-verdict-determined _ _ _ _ _ _ = answers
 

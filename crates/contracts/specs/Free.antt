@@ -83,6 +83,9 @@ clear-from-free _ _ _ = refl
 pub refused-free : AsksNothing refusals.refused.ended refusals.refused.Reads.requires
 refused-free _ _ _ = refl
 
+pub refused-at-free : AsksNothing refusals.refused_at.ended refusals.refused_at.Reads.requires
+refused-at-free _ _ _ = refl
+
 pub tell-verdict-free : AsksNothing refusals.tell_verdict.ended refusals.tell_verdict.Reads.requires
 tell-verdict-free _ _ _ = refl
 

@@ -10,7 +10,8 @@ use Rattle.numbers.specs.Fields.{littleEndian, numberAt, twosComplement}
 use Rattle.whole.specs.Rounded.{rounded}
 use Rattle.whole.specs.Examples.{half, half-below-zero}
 use Rattle.refusals.specs.declared.Verdict.the-variants.{Accepted, Refused as NotAccepted}
-use Rattle.refusals.specs.Refusals.{refused, refusal, fieldsVerdict}
+use Rattle.refusals.specs.Refusals.{refused, refusal}
+use Rattle.refusals.specs.FieldsVerdict.{fieldsVerdict, fieldsFrom}
 use Rattle.hextext.specs.Text.{readText}
 use Rattle.hextext.specs.Written.{textOf}
 use Rattle.hexformat.specs.Examples.{writes, writes-28, refuses}
@@ -19,7 +20,7 @@ use Rattle.image.specs.Examples.{contents-overrun}
 use Rattle.bodies.specs.Identity.{identityVerdict}
 use Rattle.bodies.specs.Trim.{trimOf, trimFields, trimVerdict}
 use Rattle.bodies.specs.Examples.{leapDay, leap-day-2004, leap-day-2003}
-use Rattle.sets.specs.Set.{setOf, coefficientFields, setFields, setVerdict, rowFrom, rowsFrom, gridOf}
+use Rattle.sets.specs.Set.{setOf, setFields, setVerdict, rowFrom, rowsFrom, gridOf}
 use Rattle.reading.specs.declared.value.Value.the-variants.{Known, Refused}
 use Rattle.reading.specs.Value.{within}
 use Rattle.reading.specs.Frequency.{frequencyOf, scaledOf, prescaledOf}
@@ -76,7 +77,7 @@ starredTrim =
 
 -- a panel accepts both bodies
 pub bodies-right : (setVerdict 12 starredSet ≡ Accepted) × (trimVerdict starredTrim ≡ Accepted)
-unfolding littleEndian numberAt twosComplement fieldsVerdict coefficientFields setFields trimFields
+unfolding littleEndian numberAt twosComplement fieldsVerdict fieldsFrom setFields trimFields
 bodies-right = (refl, refl)
 
 abbrev pub starred : List Example

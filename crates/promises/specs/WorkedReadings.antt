@@ -8,14 +8,15 @@ use Rattle.laws.specs.Sums.{total}
 use Rattle.numbers.specs.Fields.{littleEndian, numberAt, twosComplement}
 use Rattle.whole.specs.Rounded.{rounded}
 use Rattle.refusals.specs.declared.Verdict.the-variants.{Accepted, Refused as NotAccepted}
-use Rattle.refusals.specs.Refusals.{refusal, fieldsVerdict}
+use Rattle.refusals.specs.Refusals.{refusal}
+use Rattle.refusals.specs.FieldsVerdict.{fieldsVerdict, fieldsFrom}
 use Rattle.image.specs.Layout.{startVerdict, countVerdict, linesVerdict, sumsVerdict, layoutVerdict}
 use Rattle.image.specs.Sections.{sectionsFrom, sections}
 use Rattle.image.specs.Find.{bodyOf}
 use Rattle.bodies.specs.Identity.{identityOf, daysIn, identityFields}
-use Rattle.sets.specs.Set.{setOf, coefficientFields, setFields, rowFrom, rowsFrom, gridOf}
+use Rattle.sets.specs.Set.{setOf, setFields, rowFrom, rowsFrom, gridOf}
 use Rattle.bodies.specs.Trim.{trimOf, trimFields}
-use Rattle.bodies.specs.Note.{characterFields, noteFields}
+use Rattle.bodies.specs.Note.{noteFields}
 use Rattle.reading.specs.declared.Counts.{Counts}
 use Rattle.reading.specs.declared.Answer.{Answer}
 use Rattle.reading.specs.declared.Answer.the-variants.{Shown, Refused}
@@ -30,9 +31,9 @@ use Rattle.paper.specs.WorkedImage.{identityBytes, pressureBytes, temperatureBy
 
 -- where a proof unfolds this, it unfolds all that a reading is worked out by
 workedOut : (level : ℕ) → (image : List ℕ) → Counts → Answer
-unfolding total littleEndian numberAt twosComplement rounded fieldsVerdict
+unfolding total littleEndian numberAt twosComplement rounded fieldsVerdict fieldsFrom
     startVerdict countVerdict linesVerdict sumsVerdict layoutVerdict sectionsFrom sections bodyOf
-    daysIn identityOf identityFields setOf coefficientFields setFields rowFrom rowsFrom trimOf trimFields characterFields noteFields
+    daysIn identityOf identityFields setOf setFields rowFrom rowsFrom trimOf trimFields noteFields
     within hertz frequencyOf scaledOf prescaledOf stepOf rowSum gridSum setResult outside markOf trimmedBy shownBy measuredOf
     knows unknownVerdict missingVerdict kindVerdict bodyVerdict bodiesVerdict sectionsVerdict verdictOf sectionsReading readingOf
 workedOut level image counts = readingOf level image counts

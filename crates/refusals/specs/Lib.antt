@@ -1,5 +1,6 @@
 pub mod InNumbers
 pub mod Refusals
+pub mod FieldsVerdict
 pub mod Told
 pub mod RefusalsLaws
 pub mod VerdictLaws

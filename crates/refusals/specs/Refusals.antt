@@ -1,6 +1,6 @@
 -- Checks in order, and what a lent buffer holds.
 use mathlib.Core.Bool.{Bool, cond}
-use mathlib.Core.List.{List, [], _∷_, _++_}
+use mathlib.Core.List.{List, _++_}
 use mathlib.Core.Path.{_≡_}
 use Prim.Native.Nat.{ℕ, _-_}
 use lib.ListN.{length, replicate}
@@ -24,11 +24,6 @@ ask holds number detail = cond holds Accepted (Refused (refusal number detail))
 abbrev pub andThen : Verdict → Verdict → Verdict
 andThen Accepted next = next
 andThen (Refused r) next = Refused r
-
--- the fields of a body in layout order, each right or not: refused by the body's number at the first that is not
-unfoldable pub fieldsVerdict : (number : ℕ) → List Bool → Verdict
-fieldsVerdict number [] = Accepted
-fieldsVerdict number (right ∷ fields) = andThen (ask right number 0) (fieldsVerdict number fields)
 
 -- ---- a lent buffer
 

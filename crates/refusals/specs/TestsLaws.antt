@@ -1,4 +1,5 @@
--- What a test in the code tells of a field: x is what the code read, and the field is defined of n, or of z where it is signed.
+-- What a test in the code tells of a field: x is what the code read, and the field is defined of n, or of z where it is signed;
+-- and the rules by which a search goes through a body's fields.
 use mathlib.Core.Path.{_≡_, sym, ap, _∙_}
 use mathlib.Core.Bool.{Bool, true, false, not, _&&_}
 use Prim.Native.Nat.{ℕ, _^_, _≤_, _<_}
@@ -11,36 +12,55 @@ use mir.Val.{toZ, ofZ, hbits}
 use Rattle.laws.specs.Cases.{both-left, both-right}
 use Rattle.laws.specs.Order.{less-otherwiseℤ}
 use Rattle.laws.specs.Pattern.{read-back}
-use Rattle.refusals.specs.FieldsVerdictLaws.{Wrong}
+use Rattle.refusals.specs.FieldsVerdictLaws.{
+  Wrong,
+  judged,
+  field-right,
+  field-wrong,
+  fields-left,
+  fields-end,
+  loop-first,
+  loop-right,
+  loop-wrong,
+  loop-end,
+}
 
 -- ---- numbers
 
-pub equal : (n k : ℕ) → n ≡ k → Wrong (eqb n k) false
-equal n k h = record { tells = sym (ap not (eq-eqb n k h)) }
+module _ (n k : ℕ) where
+  pub equal : n ≡ k → Wrong (eqb n k) false
+  equal h = record { tells = sym (ap not (eq-eqb n k h)) }
 
-pub unequal : (n k : ℕ) → (n ≡ k → ⊥) → Wrong (eqb n k) true
-unequal n k h = record { tells = sym (ap not (ne-eqb n k h)) }
+  pub unequal : (n ≡ k → ⊥) → Wrong (eqb n k) true
+  unequal h = record { tells = sym (ap not (ne-eqb n k h)) }
 
-module _ (x n k : ℕ) where
-  pub same : x ≡ k → x ≡ n → Wrong (eqb n k) false
-  same h e = equal n k (sym e ∙ h)
+  pub at-most : n ≤ k → Wrong (leb n k) false
+  at-most h = record { tells = sym (ap not (le-leb n k h)) }
 
-  pub other : (x ≡ k → ⊥) → x ≡ n → Wrong (eqb n k) true
-  other h e = unequal n k (λ (f : n ≡ k). h (e ∙ f))
+  pub more : k < n → Wrong (leb n k) true
+  more h = record { tells = sym (ap not (lt-leb n k h)) }
 
-  pub at-most : x ≤ k → x ≡ n → Wrong (leb n k) false
-  at-most h e = record { tells = sym (ap not (le-leb n k (rw e at h))) }
+module _ (x n k : ℕ) (e : x ≡ n) where
+  pub read-equal : x ≡ k → Wrong (eqb n k) false
+  read-equal h = equal n k (sym e ∙ h)
 
-  pub more : k < x → x ≡ n → Wrong (leb n k) true
-  more h e = record { tells = sym (ap not (lt-leb n k (rw e at h))) }
+  pub read-unequal : (x ≡ k → ⊥) → Wrong (eqb n k) true
+  read-unequal h = unequal n k (λ (f : n ≡ k). h (e ∙ f))
+
+  pub read-at-most : x ≤ k → Wrong (leb n k) false
+  read-at-most h = at-most n k (rw e at h)
+
+  pub read-more : k < x → Wrong (leb n k) true
+  read-more h = more n k (rw e at h)
 
 -- b is what a function of the code answered
 module _ (b told : Bool) where
-  pub outside-told : (low x high n bound : ℕ) → b ≡ not (leb low x && leb x high) → b ≡ told → x ≡ n → high ≡ bound → Wrong (leb low n && leb n bound) told
-  outside-told low x high n bound e h f g = record { tells = sym h ∙ rw (f, g) at e }
+  pub outside-told : (low x high n bound : ℕ) → x ≡ n → high ≡ bound → b ≡ not (leb low x && leb x high) → b ≡ told
+      → Wrong (leb low n && leb n bound) told
+  outside-told low x high n bound f g e h = record { tells = sym h ∙ rw (f, g) at e }
 
-  pub beyond-told : (x z : ℤ) (limit : ℕ) → b ≡ not (leb (natAbs x) limit) → b ≡ told → x ≡ z → Wrong (leb (natAbs z) limit) told
-  beyond-told x z limit e h f = record { tells = sym h ∙ rw f at e }
+  pub beyond-told : (x z : ℤ) (limit : ℕ) → x ≡ z → b ≡ not (leb (natAbs x) limit) → b ≡ told → Wrong (leb (natAbs z) limit) told
+  beyond-told x z limit f e h = record { tells = sym h ∙ rw f at e }
 
 -- a number that is not outside lies within
 module _ (b : Bool) (low x high : ℕ) (e : b ≡ not (leb low x && leb x high)) (h : b ≡ false) where
@@ -59,5 +79,27 @@ module _ (b : Bool) (low x high : ℕ) (e : b ≡ not (leb low x && leb x high))
 pub read-as : (w : Width) (x z : ℤ) → mag x < 2 ^ hbits w → x ≡ z → toZ w (ofZ w x) ≡ z
 read-as w x z h e = read-back w x h ∙ e
 
-pub above-told : (x y least greatest : ℤ) (told : Bool) → ltZ y x ≡ told → x ≡ least → y ≡ greatest → Wrong (leZ least greatest) told
-above-told x y least greatest told h e f = record { tells = sym h ∙ rw (e, f) (less-otherwiseℤ least greatest) }
+pub above-told : (x y least greatest : ℤ) (told : Bool) → x ≡ least → y ≡ greatest → ltZ y x ≡ told → Wrong (leZ least greatest) told
+above-told x y least greatest told e f h = record { tells = sym h ∙ rw (e, f) (less-otherwiseℤ least greatest) }
+
+-- ---- what a proof about a body's fields cites
+
+pub ruleset tests = (
+  equal,
+  unequal,
+  at-most,
+  more,
+  read-equal,
+  read-unequal,
+  read-at-most,
+  read-more,
+  outside-told,
+  beyond-told,
+  read-as,
+  above-told,
+)
+
+-- where they are judged one by one, and where in a loop
+pub ruleset fields = (judged, field-right, field-wrong, fields-left, fields-end, tests)
+
+pub ruleset loop = (judged, loop-first, loop-right, loop-wrong, loop-end, tests)

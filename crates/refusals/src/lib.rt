@@ -1,6 +1,7 @@
 // How anything is refused, and what a lent buffer then holds.
 ghost use mathlib.Core.Path.{_≡_};
 ghost use Rattle.refusals.specs.Refusals.{refusal, Settled};
+ghost use Rattle.refusals.specs.FieldsVerdict.{refusedAt};
 
 // Answers for C.
 mod told;
@@ -26,6 +27,13 @@ pub fn refused(number: u32, detail: u64) -> Verdict
     ensures { λ r. ⌜ r ≡ Verdict.Refused (refusal number detail) ⌝ }
 {
     Verdict::Refused(Refusal { number, detail })
+}
+
+// A body whose first wrong field stands at this place in it. The place is not told yet: the detail is 0.
+pub fn refused_at(number: u32, place: usize) -> Verdict
+    ensures { λ r. ⌜ r ≡ refusedAt number place ⌝ }
+{
+    refused(number, 0)
 }
 
 // What the filling of a lent buffer answers: how many bytes from its start are the result, or why there is none.

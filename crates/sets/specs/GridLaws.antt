@@ -30,7 +30,11 @@ module _ (body : List ℕ) (rows places row place : ℕ) (g : Gridded body rows 
   absent-row h = rw (lt-leb row (pressureOrder body) (omega arith), and-false (leb (28 + 8 * coefficientCount body) (length body)))
 
   pub absent-place : places ≤ place → pos 0 ≡ gridPlace body row place
-  absent-place h = rw (lt-leb place (temperatureOrder body) (omega arith), and-false (leb (28 + 8 * coefficientCount body) (length body) && leb row (pressureOrder body)))
+  absent-place h =
+      rw (
+        lt-leb place (temperatureOrder body) (omega arith),
+        and-false (leb (28 + 8 * coefficientCount body) (length body) && leb row (pressureOrder body)),
+      )
 
   pub present-place : (z : ℤ) → row < rows → place < places → z ≡ signedAt 8 body (28 + 8 * (row * places + place)) → z ≡ gridPlace body row place
   present-place z h k e =

@@ -7,7 +7,7 @@ use lib.IntN.{ℤ, pos, natAbs}
 use lib.ListN.{length}
 use Rattle.numbers.specs.Fields.{numberAt, signedAt}
 use Rattle.refusals.specs.declared.Verdict.{Verdict}
-use Rattle.refusals.specs.Refusals.{fieldsVerdict}
+use Rattle.refusals.specs.FieldsVerdict.{Field, field, fieldsVerdict, fieldsFrom}
 use Rattle.sets.specs.declared.Set.{Set}
 
 -- the orders NP and NT
@@ -29,8 +29,11 @@ setOf body =
 abbrev pub coefficientCount : List ℕ → ℕ
 coefficientCount body = (pressureOrder body + 1) * (temperatureOrder body + 1)
 
-abbrev pub coefficientAt : List ℕ → ℕ → ℤ
-coefficientAt body i = signedAt 8 body (28 + 8 * i)
+abbrev pub coefficientPlace : (i : ℕ) → ℕ
+coefficientPlace i = 28 + 8 * i
+
+abbrev pub coefficientAt : List ℕ → (i : ℕ) → ℤ
+coefficientAt body i = signedAt 8 body (coefficientPlace i)
 
 -- ---- is it right
 
@@ -41,24 +44,28 @@ multiplierRight order multiplier = cond (eqb order 0) (eqb multiplier 0) (leb 1 
 abbrev pub offsetRight : (order offset : ℕ) → Bool
 offsetRight order offset = cond (eqb order 0) (eqb offset 0) (leb offset 6553600000)
 
--- the coefficients left from the i-th on, each from -2^34 to 2^34
-unfoldable pub coefficientFields : List ℕ → (left i : ℕ) → List Bool
-coefficientFields body zero i = []
-coefficientFields body (suc left) i = leb (natAbs (coefficientAt body i)) (2 ^ 34) ∷ coefficientFields body left (i + 1)
+-- a coefficient is -2^34 to 2^34
+abbrev pub coefficientField : List ℕ → (i : ℕ) → Field
+coefficientField body i = field (coefficientPlace i) (leb (natAbs (coefficientAt body i)) (2 ^ 34))
 
--- the algorithms of both prescales, the orders, the length, multiplier and offset of each, the coefficients
-unfoldable pub setFields : List ℕ → List Bool
+abbrev pub coefficientFields : List ℕ → (count : ℕ) → List Field
+coefficientFields body count = fieldsFrom (coefficientField body) count 0
+
+-- the algorithms of both prescales, the orders, the length, multiplier and offset of each, the coefficients;
+-- a body that has not even four bytes is too short
+unfoldable pub setFields : List ℕ → List Field
 setFields body =
-    eqb (numberAt 1 body 0) 1
-    ∷ eqb (numberAt 1 body 1) 1
-    ∷ leb (pressureOrder body) 4
-    ∷ leb (temperatureOrder body) 4
-    ∷ eqb (length body) (28 + 8 * coefficientCount body)
-    ∷ multiplierRight (pressureOrder body) (numberAt 4 body 4)
-    ∷ offsetRight (pressureOrder body) (numberAt 8 body 8)
-    ∷ multiplierRight (temperatureOrder body) (numberAt 4 body 16)
-    ∷ offsetRight (temperatureOrder body) (numberAt 8 body 20)
-    ∷ coefficientFields body (coefficientCount body) 0
+    field (length body) (leb 4 (length body))
+    ∷ field 0 (eqb (numberAt 1 body 0) 1)
+    ∷ field 1 (eqb (numberAt 1 body 1) 1)
+    ∷ field 2 (leb (pressureOrder body) 4)
+    ∷ field 3 (leb (temperatureOrder body) 4)
+    ∷ field (length body) (eqb (length body) (28 + 8 * coefficientCount body))
+    ∷ field 4 (multiplierRight (pressureOrder body) (numberAt 4 body 4))
+    ∷ field 8 (offsetRight (pressureOrder body) (numberAt 8 body 8))
+    ∷ field 16 (multiplierRight (temperatureOrder body) (numberAt 4 body 16))
+    ∷ field 20 (offsetRight (temperatureOrder body) (numberAt 8 body 20))
+    ∷ coefficientFields body (coefficientCount body)
 
 -- 12 for the pressure set, 13 for the temperature set
 abbrev pub setVerdict : (number : ℕ) → List ℕ → Verdict

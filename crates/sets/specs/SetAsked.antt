@@ -3,15 +3,14 @@ use mathlib.Core.Path.{_≡_}
 use mathlib.Core.List.{List}
 use Prim.Native.Nat.{ℕ, _+_, _*_, _≤_, _<_}
 use lib.ListN.{length}
-use Rattle.sets.specs.Set.{pressureOrder, temperatureOrder, coefficientCount}
+use Rattle.sets.specs.Set.{pressureOrder, temperatureOrder}
 
--- x and y are the orders that the code read, count the coefficients that they make, and the body is as long as that
-pub record Ordered (body : List ℕ) (x y count : ℕ) : Type 0 where
+-- x and y are the orders that the code read, and they are not too high
+pub record Ordered (body : List ℕ) (x y : ℕ) : Type 0 where
   pub pressure : x ≡ pressureOrder body
   pub temperature : y ≡ temperatureOrder body
-  pub counted : count ≡ coefficientCount body
-  pub small : count ≤ 25
-  pub fills : length body ≡ 28 + 8 * count
+  pub low-pressure : x ≤ 4
+  pub low-temperature : y ≤ 4
 
 -- rows and places are as many as the body's orders say, the body is long enough for them, and the row is one of five
 pub record Gridded (body : List ℕ) (rows places row : ℕ) : Type 0 where

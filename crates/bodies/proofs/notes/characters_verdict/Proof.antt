@@ -2,16 +2,16 @@ use Prim.Native.Nat.{_-_}
 use native.Mathlib.Omega.{arith}
 use borrow.Author.Needs.{needs}
 use lib.ListN.{length}
-use Rattle.refusals.specs.FieldsVerdictLaws.{judged}
-use Rattle.refusals.specs.TestsLaws.{outside-told}
-use Rattle.bodies.specs.NoteLaws.{Characters, characters-first, characters-more, characters-wrong, characters-end}
+use Rattle.refusals.specs.FieldsVerdictLaws.{RightBefore}
+use Rattle.refusals.specs.TestsLaws.{loop}
+use Rattle.bodies.specs.Note.{characterField}
 use Rattle.bodies.proofs.notes.characters_verdict.Statement.{statement}
 use Rattle.bodies.proofs.notes.characters_verdict.Tie as tie
 
-ruleset laws = (needs, judged, outside-told, characters-first, characters-more, characters-wrong, characters-end)
+ruleset laws = (needs, loop)
 
 abbrev Inv-loop : tie.InvT-loop
-Inv-loop body i₀ i = Characters body i
+Inv-loop body i₀ i = RightBefore 16 (characterField body) (length body) i
 
 abbrev μ-loop : tie.MeasureT-loop
 μ-loop body i₀ i = length body - i
@@ -28,8 +28,8 @@ cast-outside c = omega (arith, c .shared-slice-known2 .given (c .before .before 
 outside-requires : tie.Need-outside-requires Inv-loop μ-loop
 outside-requires c κs = search laws
 
-refused-requires : tie.Need-refused-requires Inv-loop μ-loop
-refused-requires c κs = search laws
+refused-at-requires : tie.Need-refused-at-requires Inv-loop μ-loop
+refused-at-requires c κs = search laws
 
 returns : tie.Need-returns Inv-loop μ-loop
 returns c = search laws
@@ -56,7 +56,7 @@ characters-verdict-spec =
     shared-slice-read-outside
     cast-outside
     outside-requires
-    refused-requires
+    refused-at-requires
     returns
     add-i
     loop-less

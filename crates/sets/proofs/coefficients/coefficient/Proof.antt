@@ -1,8 +1,8 @@
 use borrow.Author.Needs.{needs}
 use Rattle.numbers.specs.FieldsLaws.{signed-of-bytes}
 use Rattle.refusals.specs.TestsLaws.{read-as}
-use Rattle.sets.proofs.coefficient.Statement.{statement}
-use Rattle.sets.proofs.coefficient.Tie as tie
+use Rattle.sets.proofs.coefficients.coefficient.Statement.{statement}
+use Rattle.sets.proofs.coefficients.coefficient.Tie as tie
 
 shared-slice-read-t4 : tie.Need-shared-slice-read-t4
 shared-slice-read-t4 c = search needs

@@ -4,8 +4,8 @@ use borrow.Author.Needs.{needs}
 use Rattle.laws.specs.Loops.{Filling, filling-first, filling-more}
 use Rattle.sets.specs.Set.{rowsFrom}
 use Rattle.sets.specs.GridLaws.{too-short, count-fits, coefficients-fit, length-fits, rows-next, rows-filled}
-use Rattle.sets.proofs.read_grid.Statement.{statement}
-use Rattle.sets.proofs.read_grid.Tie as tie
+use Rattle.sets.proofs.grids.read_grid.Statement.{statement}
+use Rattle.sets.proofs.grids.read_grid.Tie as tie
 
 ruleset laws = (needs, filling-first, filling-more, too-short, count-fits, coefficients-fit, length-fits, rows-next, rows-filled)
 

@@ -1,8 +1,8 @@
 use native.Mathlib.Omega.{arith}
 use borrow.Author.Needs.{needs}
 use Rattle.sets.specs.SetLaws.{few}
-use Rattle.sets.proofs.coefficient_count.Statement.{statement}
-use Rattle.sets.proofs.coefficient_count.Tie as tie
+use Rattle.sets.proofs.sets.coefficient_count.Statement.{statement}
+use Rattle.sets.proofs.sets.coefficient_count.Tie as tie
 
 add-result : tie.Need-add-result
 add-result c = search needs

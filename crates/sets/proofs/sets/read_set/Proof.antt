@@ -1,7 +1,7 @@
 use borrow.Author.Needs.{needs}
 use Rattle.sets.specs.SetLaws.{set-read}
-use Rattle.sets.proofs.read_set.Statement.{statement}
-use Rattle.sets.proofs.read_set.Tie as tie
+use Rattle.sets.proofs.sets.read_set.Statement.{statement}
+use Rattle.sets.proofs.sets.read_set.Tie as tie
 
 number8-requires : tie.Need-number8-requires
 number8-requires c κs = search needs

@@ -1,15 +1,15 @@
 use Prim.Native.Nat.{_-_}
 use borrow.Author.Needs.{needs}
-use Rattle.refusals.specs.FieldsVerdictLaws.{judged}
-use Rattle.refusals.specs.TestsLaws.{beyond-told, read-as}
-use Rattle.sets.specs.SetLaws.{Coefficients, coefficients-first, coefficients-more, coefficients-wrong, coefficients-end}
-use Rattle.sets.proofs.coefficients_verdict.Statement.{statement}
-use Rattle.sets.proofs.coefficients_verdict.Tie as tie
+use Rattle.refusals.specs.FieldsVerdictLaws.{RightBefore}
+use Rattle.refusals.specs.TestsLaws.{loop}
+use Rattle.sets.specs.Set.{coefficientField}
+use Rattle.sets.proofs.sets.coefficients_verdict.Statement.{statement}
+use Rattle.sets.proofs.sets.coefficients_verdict.Tie as tie
 
-ruleset laws = (needs, judged, beyond-told, read-as, coefficients-first, coefficients-more, coefficients-wrong, coefficients-end)
+ruleset laws = (needs, loop)
 
 abbrev Inv-loop : tie.InvT-loop
-Inv-loop body count number i₀ i = Coefficients number body count i
+Inv-loop body count number i₀ i = RightBefore number (coefficientField body) count i
 
 abbrev μ-loop : tie.MeasureT-loop
 μ-loop body count number i₀ i = count - i
@@ -17,11 +17,11 @@ abbrev μ-loop : tie.MeasureT-loop
 loop-holds : tie.Need-loop-holds Inv-loop μ-loop
 loop-holds c = search laws
 
-mul-coefficient : tie.Need-mul-coefficient Inv-loop μ-loop
-mul-coefficient c = search laws
+mul-place : tie.Need-mul-place Inv-loop μ-loop
+mul-place c = search laws
 
-add-coefficient : tie.Need-add-coefficient Inv-loop μ-loop
-add-coefficient c = search laws
+add-place : tie.Need-add-place Inv-loop μ-loop
+add-place c = search laws
 
 coefficient-requires : tie.Need-coefficient-requires Inv-loop μ-loop
 coefficient-requires c κs = search laws
@@ -29,8 +29,8 @@ coefficient-requires c κs = search laws
 beyond-requires : tie.Need-beyond-requires Inv-loop μ-loop
 beyond-requires c κs = search laws
 
-refused-requires : tie.Need-refused-requires Inv-loop μ-loop
-refused-requires c κs = search laws
+refused-at-requires : tie.Need-refused-at-requires Inv-loop μ-loop
+refused-at-requires c κs = search laws
 
 returns : tie.Need-returns Inv-loop μ-loop
 returns c = search laws
@@ -54,11 +54,11 @@ coefficients-verdict-spec =
     Inv-loop
     μ-loop
     loop-holds
-    mul-coefficient
-    add-coefficient
+    mul-place
+    add-place
     coefficient-requires
     beyond-requires
-    refused-requires
+    refused-at-requires
     returns
     add-i
     loop-less

@@ -4,8 +4,8 @@ use Rattle.laws.specs.Loops.{Filling, filling-first, filling-more}
 use Rattle.sets.specs.Set.{rowFrom}
 use Rattle.refusals.specs.TestsLaws.{read-as}
 use Rattle.sets.specs.GridLaws.{row-next, row-filled}
-use Rattle.sets.proofs.read_row.Statement.{statement}
-use Rattle.sets.proofs.read_row.Tie as tie
+use Rattle.sets.proofs.grids.read_row.Statement.{statement}
+use Rattle.sets.proofs.grids.read_row.Tie as tie
 
 ruleset laws = (needs, filling-first, filling-more, row-next, row-filled, read-as)
 

@@ -1,0 +1,127 @@
+// A set but for its grid: what it says, and its fields judged in layout order.
+use crate::Prescale;
+use crate::Set;
+use crate::coefficients::coefficient;
+use numbers::fields::number1;
+use numbers::fields::number4;
+use numbers::fields::number8;
+use refusals::Verdict;
+use refusals::refused_at;
+use whole::beyond;
+use whole::outside;
+ghost use mathlib.Core.Path.{_≡_};
+ghost use mathlib.Core.Bool.{not, cond};
+ghost use Prim.Native.Nat.{_+_, _*_, _≤_};
+ghost use lib.Dec.{eqb};
+ghost use lib.ListN.{length, drop};
+ghost use Rattle.refusals.specs.FieldsVerdict.{fieldsVerdict};
+ghost use Rattle.sets.specs.Set.{setOf, setFields, setVerdict, multiplierRight, offsetRight, coefficientFields};
+ghost use Rattle.sets.specs.SetAsked.{Ordered};
+
+pub fn read_set(body: &[u8]) -> Set
+    ensures { λ r. ⌜ r ≡ setOf (now (body .entry)) ⌝ }
+{
+    // from the last field on: where it is there the compiler knows that the others are
+    let temperature = Prescale {
+        offset: number8(body, 20),
+        multiplier: number4(body, 16),
+        order: number1(body, 3),
+    };
+    let pressure = Prescale {
+        offset: number8(body, 8),
+        multiplier: number4(body, 4),
+        order: number1(body, 2),
+    };
+    Set {
+        pressure,
+        temperature,
+    }
+}
+
+pub fn set_verdict(body: &[u8], number: u32) -> Verdict
+    ensures { λ r. ⌜ r ≡ setVerdict number (now (body .entry)) ⌝ }
+{
+    if body.len() < 4 {
+        return refused_at(number, body.len());
+    }
+    if number1(body, 0) != 1 {
+        return refused_at(number, 0);
+    }
+    if number1(body, 1) != 1 {
+        return refused_at(number, 1);
+    }
+    let pressure = number1(body, 2);
+    if 4 < pressure {
+        return refused_at(number, 2);
+    }
+    let temperature = number1(body, 3);
+    if 4 < temperature {
+        return refused_at(number, 3);
+    }
+    prescales_verdict(body, pressure, temperature, number)
+}
+
+// The fields after the orders, which are the body's: its length, multiplier and offset of each prescale, the coefficients.
+fn prescales_verdict(body: &[u8], pressure: u8, temperature: u8, number: u32) -> Verdict
+    requires { ⌜ Ordered (now body) pressure temperature ⌝ }
+    ensures { λ r. ⌜ r ≡ fieldsVerdict number (drop 5 (setFields (now (body .entry)))) ⌝ }
+{
+    let count = coefficient_count(pressure, temperature);
+    if body.len() != 28 + 8 * count {
+        return refused_at(number, body.len());
+    }
+    if multiplier_wrong(pressure, number4(body, 4)) {
+        return refused_at(number, 4);
+    }
+    if offset_wrong(pressure, number8(body, 8)) {
+        return refused_at(number, 8);
+    }
+    if multiplier_wrong(temperature, number4(body, 16)) {
+        return refused_at(number, 16);
+    }
+    if offset_wrong(temperature, number8(body, 20)) {
+        return refused_at(number, 20);
+    }
+    coefficients_verdict(body, count, number)
+}
+
+fn coefficient_count(pressure: u8, temperature: u8) -> usize
+    requires { ⌜ (pressure ≤ 4) × (temperature ≤ 4) ⌝ }
+    ensures { λ r. ⌜ (r ≡ (pressure + 1) * (temperature + 1)) × (r ≤ 25) ⌝ }
+{
+    (pressure as usize + 1) * (temperature as usize + 1)
+}
+
+// A limit of a prescale, which is 0 where the order is 0.
+fn limit(order: u8, otherwise: u64) -> u64
+    ensures { λ r. ⌜ r ≡ cond (eqb order 0) 0 otherwise ⌝ }
+{
+    if order == 0 { 0 } else { otherwise }
+}
+
+fn multiplier_wrong(order: u8, multiplier: u32) -> bool
+    ensures { λ r. ⌜ r ≡ not (multiplierRight order multiplier) ⌝ }
+{
+    outside(limit(order, 1), multiplier as u64, limit(order, 1073741824))
+}
+
+fn offset_wrong(order: u8, offset: u64) -> bool
+    ensures { λ r. ⌜ r ≡ not (offsetRight order offset) ⌝ }
+{
+    limit(order, 6553600000) < offset
+}
+
+fn coefficients_verdict(body: &[u8], count: usize, number: u32) -> Verdict
+    requires { ⌜ (count ≤ 25) × (length (now body) ≡ 28 + 8 * count) ⌝ }
+    ensures { λ r. ⌜ r ≡ fieldsVerdict number (coefficientFields (now (body .entry)) count) ⌝ }
+{
+    let mut i: usize = 0;
+    while i < count {
+        let place = 28 + 8 * i;
+        if beyond(coefficient(body, place), 17179869184) {
+            return refused_at(number, place);
+        }
+        i += 1;
+    }
+    Verdict::Accepted
+}
