@@ -9,14 +9,15 @@ use core::fmt;
 /// assert_eq!([Unit::Psi, Unit::Bar, Unit::Kpa].map(u8::from), [1, 2, 3]);
 /// assert_eq!(Unit::Kpa.to_string(), "kPa");
 /// ```
+#[repr(u8)]
 #[derive(Debug, Clone, Copy, PartialEq, Eq)]
 pub enum Unit {
     /// psi, also where there is no trim.
-    Psi,
+    Psi = card::UNIT_PSI,
     /// bar.
-    Bar,
+    Bar = card::UNIT_BAR,
     /// kPa.
-    Kpa,
+    Kpa = card::UNIT_KPA,
 }
 
 impl Unit {
@@ -35,11 +36,7 @@ impl Unit {
 impl From<Unit> for u8 {
     #[inline]
     fn from(unit: Unit) -> Self {
-        match unit {
-            Unit::Psi => card::UNIT_PSI,
-            Unit::Bar => card::UNIT_BAR,
-            Unit::Kpa => card::UNIT_KPA,
-        }
+        unit as Self
     }
 }
 
