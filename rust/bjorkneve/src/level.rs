@@ -9,21 +9,19 @@ use crate::{card, refused, Refusal};
 /// assert_eq!(u32::from(Level::Two), 2);
 /// assert_eq!(Level::try_from(257).map_err(|refusal| refusal.number), Err(refused::NO_SUCH_LEVEL));
 /// ```
+#[repr(u32)]
 #[derive(Debug, Clone, Copy, PartialEq, Eq)]
 pub enum Level {
     /// Identity, pressure set and temperature set.
-    One,
+    One = card::LEVEL_1,
     /// Trim and note too.
-    Two,
+    Two = card::LEVEL_2,
 }
 
 impl From<Level> for u32 {
     #[inline]
     fn from(level: Level) -> Self {
-        match level {
-            Level::One => card::LEVEL_1,
-            Level::Two => card::LEVEL_2,
-        }
+        level as Self
     }
 }
 

@@ -9,14 +9,15 @@ use core::fmt;
 /// assert_eq!([Unit::Psi, Unit::Bar, Unit::Kpa].map(u8::from), [1, 2, 3]);
 /// assert_eq!(Unit::Kpa.to_string(), "kPa");
 /// ```
+#[repr(u8)]
 #[derive(Debug, Clone, Copy, PartialEq, Eq)]
 pub enum Unit {
     /// psi, also where there is no trim.
-    Psi,
+    Psi = card::UNIT_PSI,
     /// bar.
-    Bar,
+    Bar = card::UNIT_BAR,
     /// kPa.
-    Kpa,
+    Kpa = card::UNIT_KPA,
 }
 
 impl Unit {
@@ -35,11 +36,7 @@ impl Unit {
 impl From<Unit> for u8 {
     #[inline]
     fn from(unit: Unit) -> Self {
-        match unit {
-            Unit::Psi => card::UNIT_PSI,
-            Unit::Bar => card::UNIT_BAR,
-            Unit::Kpa => card::UNIT_KPA,
-        }
+        unit as Self
     }
 }
 
@@ -54,10 +51,11 @@ impl fmt::Display for Unit {
 }
 
 /// Whether a reading lies outside the limits that the image states for its
-/// gauge. A marked reading is worked out as always.
+/// gauge, as a number: 1 for the temperature plus 2 for the pressure. A marked
+/// reading is worked out as always.
 ///
 /// ```
-/// use bjorkneve::{Channel, Counts, Level, ReferenceCycles, SensorCycles};
+/// use bjorkneve::{Channel, Counts, Level, Mark, ReferenceCycles, SensorCycles};
 ///
 /// # let text = include_bytes!(concat!(env!("CARGO_MANIFEST_DIR"), "/../../examples/typical.hex"));
 /// # let mut buffer = [0; bjorkneve::LARGEST_IMAGE];
@@ -71,45 +69,19 @@ impl fmt::Display for Unit {
 ///     pressure: channel(3_280_000),
 ///     temperature: channel(1_355_000),
 /// };
-/// let mark = bjorkneve::reading(image, Level::Two, counts)?.mark;
-/// assert!(mark.pressure_outside() && !mark.temperature_outside());
+/// assert_eq!(bjorkneve::reading(image, Level::Two, counts)?.mark, Mark(2));
 /// # Ok::<(), bjorkneve::Refusal>(())
 /// ```
 #[derive(Debug, Clone, Copy, PartialEq, Eq)]
-pub struct Mark(pub(crate) u8);
+pub struct Mark(pub u8);
 
 impl Mark {
-    /// Neither lies outside.
-    ///
-    /// ```
-    /// # use bjorkneve::{Channel, Counts, Level, ReferenceCycles, SensorCycles};
-    /// # let text = include_bytes!(concat!(env!("CARGO_MANIFEST_DIR"), "/../../examples/typical.hex"));
-    /// # let mut buffer = [0; bjorkneve::LARGEST_IMAGE];
-    /// # let image = bjorkneve::load(text, Level::Two, &mut buffer)?;
-    /// # let channel = |reference| Channel { sensor: SensorCycles(10_000), reference: ReferenceCycles(reference) };
-    /// # let counts = Counts { pressure: channel(2_847_876), temperature: channel(1_352_875) };
-    /// let reading = bjorkneve::reading(image, Level::Two, counts)?;
-    /// assert!(reading.mark.is_clear());
-    /// # Ok::<(), bjorkneve::Refusal>(())
-    /// ```
-    #[inline]
-    #[must_use]
-    pub fn is_clear(self) -> bool {
-        self.0 == 0
-    }
-
     /// The temperature lies outside.
     ///
     /// ```
-    /// # use bjorkneve::{Channel, Counts, Level, ReferenceCycles, SensorCycles};
-    /// # let text = include_bytes!(concat!(env!("CARGO_MANIFEST_DIR"), "/../../examples/typical.hex"));
-    /// # let mut buffer = [0; bjorkneve::LARGEST_IMAGE];
-    /// # let image = bjorkneve::load(text, Level::Two, &mut buffer)?;
-    /// # let channel = |reference| Channel { sensor: SensorCycles(10_000), reference: ReferenceCycles(reference) };
-    /// # let counts = Counts { pressure: channel(3_260_000), temperature: channel(1_125_000) };
-    /// let reading = bjorkneve::reading(image, Level::Two, counts)?;
-    /// assert!(reading.mark.temperature_outside()); // -18 °C
-    /// # Ok::<(), bjorkneve::Refusal>(())
+    /// use bjorkneve::Mark;
+    ///
+    /// assert_eq!([0, 1, 2, 3].map(|mark| Mark(mark).temperature_outside()), [false, true, false, true]);
     /// ```
     #[inline]
     #[must_use]
@@ -120,39 +92,14 @@ impl Mark {
     /// The pressure lies outside, in psi and before trim.
     ///
     /// ```
-    /// # use bjorkneve::{Channel, Counts, Level, ReferenceCycles, SensorCycles};
-    /// # let text = include_bytes!(concat!(env!("CARGO_MANIFEST_DIR"), "/../../examples/typical.hex"));
-    /// # let mut buffer = [0; bjorkneve::LARGEST_IMAGE];
-    /// # let image = bjorkneve::load(text, Level::Two, &mut buffer)?;
-    /// # let channel = |reference| Channel { sensor: SensorCycles(10_000), reference: ReferenceCycles(reference) };
-    /// # let counts = Counts { pressure: channel(3_280_000), temperature: channel(1_355_000) };
-    /// let reading = bjorkneve::reading(image, Level::Two, counts)?;
-    /// assert!(reading.mark.pressure_outside()); // -10 psi
-    /// # Ok::<(), bjorkneve::Refusal>(())
+    /// use bjorkneve::Mark;
+    ///
+    /// assert_eq!([0, 1, 2, 3].map(|mark| Mark(mark).pressure_outside()), [false, false, true, true]);
     /// ```
     #[inline]
     #[must_use]
     pub fn pressure_outside(self) -> bool {
         self.0 & card::MARK_PRESSURE != 0
-    }
-
-    /// The mark as a number: 1 for the temperature plus 2 for the pressure.
-    ///
-    /// ```
-    /// # use bjorkneve::{Channel, Counts, Level, ReferenceCycles, SensorCycles};
-    /// # let text = include_bytes!(concat!(env!("CARGO_MANIFEST_DIR"), "/../../examples/typical.hex"));
-    /// # let mut buffer = [0; bjorkneve::LARGEST_IMAGE];
-    /// # let image = bjorkneve::load(text, Level::Two, &mut buffer)?;
-    /// # let channel = |reference| Channel { sensor: SensorCycles(10_000), reference: ReferenceCycles(reference) };
-    /// # let counts = Counts { pressure: channel(3_460_000), temperature: channel(1_240_000) };
-    /// let reading = bjorkneve::reading(image, Level::Two, counts)?;
-    /// assert_eq!(reading.mark.number(), 3); // -1,064 psi and 24.8 °C
-    /// # Ok::<(), bjorkneve::Refusal>(())
-    /// ```
-    #[inline]
-    #[must_use]
-    pub fn number(self) -> u8 {
-        self.0
     }
 }
 

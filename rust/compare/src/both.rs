@@ -199,7 +199,7 @@ pub fn reading(image: &[u8], level: u32, counts: reference::Counts) -> Answer<re
             pressure: reading.pressure,
             temperature: reading.temperature,
             unit: reading.unit.into(),
-            mark: reading.mark.number(),
+            mark: reading.mark.0,
         })
         .map_err(ours_refusal);
     let theirs = reference::reading(image, level, counts).map_err(their_refusal);
