@@ -1,9 +1,9 @@
 -- The verdict on each body is document 01's: identity, pressure set and temperature set, trim, note.
 use mathlib.Core.Bool.{Bool, true, false, cond, _&&_, _||_, and-assoc}
-use mathlib.Core.List.{List, [], _∷_}
+use mathlib.Core.List.{List}
 use mathlib.Core.Logic.{_⊎_, inl, inr, ⊎-elim}
-use mathlib.Core.Path.{_≡_, refl, sym}
-use Prim.Native.Nat.{ℕ, zero, suc, _+_, _-_, _*_, _%_, _^_, _≤_, _<_}
+use mathlib.Core.Path.{_≡_, refl}
+use Prim.Native.Nat.{ℕ, suc, _+_, _-_, _*_, _%_, _^_, _≤_, _<_}
 use native.Mathlib.Omega.{arith}
 use borrow.Author.Tests.{leb-true, leb-false, eqb-true, eqb-false}
 use lib.Dec.{T, leb, eqb, eqb→eq}
@@ -11,7 +11,7 @@ use lib.ListN.{length, getD}
 use Rattle.paper.specs.Words.{Not, Outside, Beyond}
 use Rattle.paper.specs.Table.{row}
 use Rattle.paper.specs.Bodies.{LeapYear, NoSuchDay, IdentityWrong, PrescaleWrong, SetWrong, TrimWrong, NoteWrong}
-use Rattle.laws.specs.Cases.{split, decide, never, both-left, both-right}
+use Rattle.laws.specs.Cases.{decide, never, both-left, both-right}
 use Rattle.laws.specs.Tables.{every, entry}
 use Rattle.numbers.specs.Fields.{numberAt, signedAt}
 use Rattle.bodies.specs.Identity.{leapYear, monthLengths, daysIn, identityFields, identityVerdict}

@@ -1,3 +1,4 @@
+// Kind 1, identity: what it says, and its fields judged in layout order.
 use super::Identity;
 use numbers::fields::number1;
 use numbers::fields::number2;

@@ -1,3 +1,4 @@
+// Kind 129, note: its fields judged in layout order.
 use refusals::Verdict;
 use refusals::refused_at;
 use whole::outside;

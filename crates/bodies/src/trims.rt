@@ -1,3 +1,4 @@
+// Kind 4, trim: what it says, and its fields judged in layout order.
 use super::Trim;
 use numbers::fields::number1;
 use numbers::fields::number4;

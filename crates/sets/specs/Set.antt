@@ -52,7 +52,7 @@ abbrev pub coefficientFields : List ℕ → (count : ℕ) → List Field
 coefficientFields body count = fieldsFrom (coefficientField body) count 0
 
 -- the algorithms of both prescales, the orders, the length, multiplier and offset of each, the coefficients;
--- a body that has not even four bytes is too short
+-- a body of less than four bytes is wrong in its length
 unfoldable pub setFields : List ℕ → List Field
 setFields body =
     field (length body) (leb 4 (length body))
