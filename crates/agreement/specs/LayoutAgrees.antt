@@ -16,7 +16,8 @@ use Rattle.laws.specs.Cases.{split}
 use Rattle.refusals.specs.declared.Verdict.{Verdict}
 use Rattle.refusals.specs.declared.Verdict.the-variants.{Accepted, Refused}
 use Rattle.refusals.specs.Refusals.{refusal, ask, andThen}
-use Rattle.image.specs.Layout.{lineRight, startVerdict, countVerdict, linesVerdict, sumsVerdict, layoutVerdict}
+use Rattle.image.specs.Contents.{lineRight, startVerdict, countVerdict, linesVerdict}
+use Rattle.image.specs.Layout.{sumsVerdict, layoutVerdict}
 use Rattle.image.specs.LayoutLaws.{passed-right}
 use Rattle.agreement.specs.TableLaws.{Gives, Judges, judged-alone, gives-then, Single, row-once, lowest-once, refused-exactly, accepted-exactly}
 use Rattle.agreement.specs.TestsLaws.{Fails, fails-le, fails-lt, fails-eq, fails-and, fails-as, fails-outside, ask-judges}

@@ -12,7 +12,8 @@ use Rattle.numbers.specs.Slices.{IsPart}
 use Rattle.refusals.specs.declared.Refusal.{Refusal}
 use Rattle.refusals.specs.declared.Verdict.{Verdict}
 use Rattle.refusals.specs.declared.Verdict.the-variants.{Accepted, Refused}
-use Rattle.image.specs.Layout.{lineCount, kindAt, offsetAt, lengthAt, layoutVerdict}
+use Rattle.image.specs.Contents.{lineCount, kindAt, offsetAt, lengthAt}
+use Rattle.image.specs.Layout.{layoutVerdict}
 use Rattle.laws.specs.Loops.{one-left, none-left}
 use Rattle.image.specs.Find.{found, foundOffset, isThere, orElse, Found}
 use Rattle.finder.specs.declared.Place.{Place}

@@ -8,7 +8,8 @@ use lib.ListN.{length, take, drop}
 use Rattle.laws.specs.Sums.{total}
 use Rattle.refusals.specs.declared.Verdict.{Verdict}
 use Rattle.refusals.specs.declared.Verdict.the-variants.{Accepted}
-use Rattle.image.specs.Layout.{lineCount, linePlace, sumAt, linesVerdict, sumsVerdict}
+use Rattle.image.specs.Contents.{lineCount, linePlace, sumAt, linesVerdict}
+use Rattle.image.specs.Layout.{sumsVerdict}
 
 abbrev pub allLines : List ℕ → Verdict
 allLines image = linesVerdict image (lineCount image) 0 0 (linePlace (lineCount image))

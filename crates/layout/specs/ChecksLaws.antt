@@ -17,7 +17,8 @@ use Rattle.refusals.specs.declared.Verdict.{Verdict}
 use Rattle.refusals.specs.declared.Verdict.the-variants.{Accepted, Refused}
 use Rattle.refusals.specs.Refusals.{refusal, ask}
 use Rattle.refusals.specs.VerdictLaws.{ask-passes, ask-refuses, ask-unpassed}
-use Rattle.image.specs.Layout.{lineCount, linePlace, kindAt, offsetAt, lengthAt, sumAt, startVerdict, countVerdict, lineRight, linesVerdict, sumsVerdict, layoutVerdict}
+use Rattle.image.specs.Contents.{lineCount, linePlace, kindAt, offsetAt, lengthAt, sumAt, startVerdict, countVerdict, lineRight, linesVerdict}
+use Rattle.image.specs.Layout.{sumsVerdict, layoutVerdict}
 use Rattle.laws.specs.Loops.{one-left, none-left}
 use Rattle.image.specs.LayoutLaws.{Started, start-passes, start-passed, Counted, count-passes, count-passed, Right, passed-right, LinePassed, line-passed, bodies-within}
 use Rattle.layout.specs.Checks.{allLines, Placed, sumRight, allSums}

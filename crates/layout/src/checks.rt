@@ -2,7 +2,7 @@ ghost use mathlib.Core.Path.{_≡_};
 ghost use Prim.Native.Nat.{_+_, _/_, _%_, _≤_, _<_};
 ghost use lib.ListN.{length};
 ghost use Rattle.numbers.specs.Fields.{numberAt};
-ghost use Rattle.image.specs.Layout.{lineCount, linePlace, offsetAt, lengthAt, sumAt, startVerdict, countVerdict, lineRight};
+ghost use Rattle.image.specs.Contents.{lineCount, linePlace, offsetAt, lengthAt, sumAt, startVerdict, countVerdict, lineRight};
 ghost use Rattle.layout.specs.Checks.{allLines, Placed, sumRight, allSums};
 use numbers::fields;
 use numbers::slices;

@@ -8,7 +8,7 @@ use borrow.Author.Tests.{lt-ltb, le-ltb}
 use lib.IntN.{ℤ, negsuc, _-ℤ_}
 use lib.Signed.{mag}
 use lib.ListN.{length, take, drop, getD, drop-of-length-le, List·getD-eq-default}
-use lib.Seq.{drop-cons, drop-drop, take-nil}
+use lib.Seq.{drop-cons, drop-drop, take-nil, take-take}
 use mir.Syntax.{Width, w8, w16, w32, w64, w128}
 use mir.Val.{SFits, bits, hbits, toZ, ofZ}
 use mir.Facts.{toZ-pos, toZ-ofZ}
@@ -56,6 +56,17 @@ number-at-end l place e h = number-of-last l place e (omega arith)
 pub number-from : (w : ℕ) (l : List ℕ) (from place : ℕ) → numberAt w (drop from l) place ≡ numberAt w l (from + place)
 unfolding numberAt
 number-from w l from place = rw (drop-drop place from l)
+
+-- among the first n bytes alone
+part-within : (w place n : ℕ) (l : List ℕ) → place + w ≤ n → take w (drop place (take n l)) ≡ take w (drop place l)
+part-within w zero n l h = take-take w n l (omega arith)
+part-within w (suc place) zero l h = absurd (omega arith)
+part-within w (suc place) (suc n) [] h = refl
+part-within w (suc place) (suc n) (b ∷ l) h = part-within w place n l (omega arith)
+
+pub number-within : (w : ℕ) (l : List ℕ) (place n : ℕ) → place + w ≤ n → numberAt w (take n l) place ≡ numberAt w l place
+unfolding numberAt
+number-within w l place n h = rw (part-within w place n l h)
 
 -- one byte and two, wherever they stand
 pub byte-at : (l : List ℕ) (place : ℕ) → numberAt 1 l place ≡ getD l place 0

@@ -14,7 +14,8 @@ use Rattle.laws.specs.Loops.{one-left, none-left}
 use Rattle.refusals.specs.declared.Verdict.{Verdict}
 use Rattle.refusals.specs.declared.Verdict.the-variants.{Accepted}
 use Rattle.refusals.specs.VerdictLaws.{asked, first-passed, next-passed}
-use Rattle.image.specs.Layout.{lineCount, linePlace, kindAt, offsetAt, lengthAt, bodyAt, layoutVerdict}
+use Rattle.image.specs.Contents.{lineCount, linePlace, kindAt, offsetAt, lengthAt}
+use Rattle.image.specs.Layout.{bodyAt, layoutVerdict}
 use Rattle.image.specs.LayoutLaws.{layout-passed, body-within}
 use Rattle.image.specs.Sections.{sectionsFrom, sections}
 use Rattle.image.specs.Find.{bodyOf, isThere}

@@ -12,7 +12,8 @@ use Rattle.refusals.specs.declared.Refusal.{Refusal}
 use Rattle.refusals.specs.declared.Verdict.{Verdict}
 use Rattle.refusals.specs.declared.Verdict.the-variants.{Accepted, Refused}
 use Rattle.refusals.specs.Refusals.{refusal, andThen}
-use Rattle.image.specs.Layout.{lineCount, kindAt, bodyAt, layoutVerdict}
+use Rattle.image.specs.Contents.{lineCount, kindAt}
+use Rattle.image.specs.Layout.{bodyAt, layoutVerdict}
 use Rattle.image.specs.LayoutLaws.{layout-passed}
 use Rattle.image.specs.Sections.{Section, sectionsFrom, sections}
 use Rattle.image.specs.Find.{bodyOf, isThere}

@@ -14,7 +14,8 @@ use Rattle.refusals.specs.declared.Verdict.the-variants.{Refused as NotAccepted
 use Rattle.refusals.specs.declared.Refusal.{Refusal}
 use Rattle.refusals.specs.declared.Filled.the-variants.{Refused as NotFilled}
 use Rattle.refusals.specs.Refusals.{Outcome, result, refused, answerTo, heldAfter, refusal, Fills}
-use Rattle.image.specs.Layout.{startVerdict, layoutVerdict}
+use Rattle.image.specs.Contents.{startVerdict}
+use Rattle.image.specs.Layout.{layoutVerdict}
 use Rattle.reading.specs.declared.Counts.{Counts}
 use Rattle.reading.specs.declared.Answer.the-variants.{Refused}
 use Rattle.panel.specs.Levels.{isLevel}

@@ -4,7 +4,7 @@ use native.Mathlib.Omega.{arith}
 use borrow.Author.Needs.{needs}
 use denote.Ref.{now}
 use Rattle.numbers.specs.FieldsLaws.{side-after}
-use Rattle.image.specs.Layout.{offsetAt, lengthAt}
+use Rattle.image.specs.Contents.{offsetAt, lengthAt}
 use Rattle.panel.specs.LinesLaws.{line-body}
 use Rattle.panel.proofs.lines.body.Statement.{statement}
 use Rattle.panel.proofs.lines.body.Tie as tie

@@ -9,10 +9,10 @@ use borrow.Author.Tests.{ltb-true, ltb-false, eqb-true, eqb-false, eq-eqb}
 use lib.Dec.{ltb, eqb}
 use lib.ListN.{length, length-append}
 use Rattle.laws.specs.Cases.{decide, never}
-use Rattle.image.specs.Layout.{linePlace}
+use Rattle.image.specs.Contents.{linePlace}
 use Rattle.image.specs.Sections.{Section, bodiesOf, Rising, Fit}
 use Rattle.image.specs.Find.{bodyOf}
-use Rattle.promises.specs.Merged.{inserted, merged, holds, EachKind, EachOnce, IsKind}
+use Rattle.image.specs.Merged.{inserted, merged, holds, EachKind, EachOnce, IsKind}
 
 -- ---- what is held
 
