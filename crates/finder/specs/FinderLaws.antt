@@ -12,8 +12,10 @@ use Rattle.numbers.specs.Slices.{IsPart}
 use Rattle.refusals.specs.declared.Refusal.{Refusal}
 use Rattle.refusals.specs.declared.Verdict.{Verdict}
 use Rattle.refusals.specs.declared.Verdict.the-variants.{Accepted, Refused}
-use Rattle.image.specs.Contents.{lineCount, kindAt, offsetAt, lengthAt}
+use Rattle.image.specs.Contents.{lineCount, kindAt}
 use Rattle.image.specs.Layout.{layoutVerdict}
+use Rattle.contents.specs.declared.Line.{Line}
+use Rattle.contents.specs.Lines.{lineAt}
 use Rattle.laws.specs.Loops.{one-left, none-left}
 use Rattle.image.specs.Find.{found, foundOffset, isThere, orElse, Found}
 use Rattle.finder.specs.declared.Place.{Place}
@@ -25,21 +27,19 @@ use Rattle.finder.specs.PlacesLaws.{bodySaid, Places, stated-places, ill
 
 pub record Looking (image : List ℕ) (kind count i : ℕ) : Type 0 where
   pub rest : statedFrom image (count - i) i kind ≡ statedPlace image kind
-  pub few : count < 256
 
-pub looking-first : (image : List ℕ) (kind count : ℕ) → count ≡ lineCount image → count < 256 → Looking image kind count 0
-looking-first image kind count c h = record { rest = rw (sub-zero count, c); few = h }
+pub looking-first : (image : List ℕ) (kind count : ℕ) → count ≡ lineCount image → Looking image kind count 0
+looking-first image kind count c = record { rest = rw (sub-zero count, c) }
 
 module _ (image : List ℕ) (kind count i : ℕ) (l : Looking image kind count i) where
-  pub stated-here : (k offset size : ℕ) → i < count → k ≡ kindAt image i → k ≡ kind → offset ≡ offsetAt image i → size ≡ lengthAt image i
-      → At offset size ≡ statedPlace image kind
-  unfolding statedFrom
-  stated-here k offset size more e f o s = rw (o, s) (rw (one-left count i more, eq-eqb kind (kindAt image i) (sym f ∙ e)) at (l .rest))
+  module _ (line : Line) (e : line ≡ lineAt image i) (more : i < count) where
+    pub stated-here : line .kind ≡ kind → At (line .offset) (line .length) ≡ statedPlace image kind
+    unfolding statedFrom
+    stated-here f = rw e (rw (one-left count i more, eq-eqb kind (kindAt image i) (sym f ∙ rw e)) at (l .rest))
 
-  pub looking-more : (k : ℕ) → i < count → k ≡ kindAt image i → (k ≡ kind → ⊥) → Looking image kind count (i + 1)
-  unfolding statedFrom
-  looking-more k more e n =
-      record { rest = rw (one-left count i more, ne-eqb kind (kindAt image i) (λ q. n (e ∙ sym q))) at (l .rest); few = l .few }
+    pub looking-more : (line .kind ≡ kind → ⊥) → Looking image kind count (i + 1)
+    unfolding statedFrom
+    looking-more n = record { rest = rw (one-left count i more, ne-eqb kind (kindAt image i) (λ q. n (rw e (sym q)))) at (l .rest) }
 
   pub stated-nowhere : count ≤ i → Nowhere ≡ statedPlace image kind
   unfolding statedFrom

@@ -18,6 +18,9 @@ sumsVerdict image zero i = Accepted
 sumsVerdict image (suc left) i =
     andThen (ask (eqb (total (bodyAt image i) % 65536) (sumAt image i)) 8 i) (sumsVerdict image left (i + 1))
 
+abbrev pub allSums : List ℕ → Verdict
+allSums image = sumsVerdict image (lineCount image) 0
+
 -- the layout is good where this is Accepted
 unfoldable pub layoutVerdict : List ℕ → Verdict
-layoutVerdict image = andThen (contentsVerdict (length image) image) (sumsVerdict image (lineCount image) 0)
+layoutVerdict image = andThen (contentsVerdict (length image) image) (allSums image)

@@ -11,7 +11,7 @@ use Rattle.refusals.specs.declared.Verdict.the-variants.{Accepted}
 use Rattle.refusals.specs.Refusals.{ask}
 use Rattle.refusals.specs.VerdictLaws.{asked, first-passed, next-passed}
 use Rattle.image.specs.Contents.{lineCount, linePlace, offsetAt, lengthAt, sumAt, contentsVerdict}
-use Rattle.image.specs.Layout.{bodyAt, sumsVerdict, layoutVerdict}
+use Rattle.image.specs.Layout.{bodyAt, sumsVerdict, allSums, layoutVerdict}
 use Rattle.image.specs.ContentsLaws.{ContentsGood, contents-pass, contents-passed, bodies-within}
 
 -- ---- the sums
@@ -33,7 +33,7 @@ sum-passed image left i e =
 
 pub record Good (image : List ℕ) : Type 0 where
   pub contents : ContentsGood (length image) image
-  pub sums : sumsVerdict image (lineCount image) 0 ≡ Accepted
+  pub sums : allSums image ≡ Accepted
 
 module _ (image : List ℕ) where
   pub layout-passes : Good image → layoutVerdict image ≡ Accepted

@@ -3,8 +3,8 @@
 // Which kinds a level knows.
 mod levels;
 
-// The contents lines of an image whose layout is good.
-mod lines;
+// Whether the next of the first kinds is there.
+mod first_kinds;
 
 // The verdict on an image.
 mod verdicts;

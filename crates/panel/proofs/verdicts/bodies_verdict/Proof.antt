@@ -1,12 +1,11 @@
 use Prim.Native.Nat.{_-_}
 use borrow.Author.Needs.{needs}
 use Rattle.panel.specs.BodiesLaws.{sectionBySection}
-use Rattle.panel.specs.LinesLaws.{has-line}
 use Rattle.panel.specs.VerdictLaws.{Passing, passing-first, bodies-more, body-refused, bodies-passed}
 use Rattle.panel.proofs.verdicts.bodies_verdict.Statement.{statement}
 use Rattle.panel.proofs.verdicts.bodies_verdict.Tie as tie
 
-ruleset laws = (needs, has-line, passing-first, bodies-more, body-refused, bodies-passed)
+ruleset laws = (needs, passing-first, bodies-more, body-refused, bodies-passed)
 
 abbrev Inv-loop : tie.InvT-loop
 Inv-loop image level count line₀ line = Passing (sectionBySection level) image count line
@@ -14,8 +13,8 @@ Inv-loop image level count line₀ line = Passing (sectionBySection level) image
 abbrev μ-loop : tie.MeasureT-loop
 μ-loop image level count line₀ line = count - line
 
-count-requires : tie.Need-count-requires Inv-loop μ-loop
-count-requires c κs = search laws
+line-count-requires : tie.Need-line-count-requires Inv-loop μ-loop
+line-count-requires c κs = search laws
 
 loop-holds : tie.Need-loop-holds Inv-loop μ-loop
 loop-holds c = search laws
@@ -50,7 +49,7 @@ bodies-verdict-spec =
     (tie.spec
     Inv-loop
     μ-loop
-    count-requires
+    line-count-requires
     loop-holds
     line-verdict-requires
     enum-told

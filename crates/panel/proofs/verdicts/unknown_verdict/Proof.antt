@@ -2,12 +2,11 @@ use mathlib.Core.Path.{_∙_}
 use Prim.Native.Nat.{_-_}
 use borrow.Author.Needs.{needs}
 use Rattle.panel.specs.Verdict.{unknownVerdict}
-use Rattle.panel.specs.LinesLaws.{has-line}
 use Rattle.panel.specs.VerdictLaws.{Passing, passing-first, passing-more, unknown-here, none-unknown}
 use Rattle.panel.proofs.verdicts.unknown_verdict.Statement.{statement}
 use Rattle.panel.proofs.verdicts.unknown_verdict.Tie as tie
 
-ruleset laws = (needs, has-line, passing-first, passing-more, unknown-here, none-unknown)
+ruleset laws = (needs, passing-first, passing-more, unknown-here, none-unknown)
 
 abbrev Inv-loop : tie.InvT-loop
 Inv-loop image level count i₀ i = Passing (unknownVerdict level) image count i
@@ -15,14 +14,17 @@ Inv-loop image level count i₀ i = Passing (unknownVerdict level) image count i
 abbrev μ-loop : tie.MeasureT-loop
 μ-loop image level count i₀ i = count - i
 
-count-requires : tie.Need-count-requires Inv-loop μ-loop
-count-requires c κs = search laws
+line-count-requires : tie.Need-line-count-requires Inv-loop μ-loop
+line-count-requires c κs = search laws
 
 loop-holds : tie.Need-loop-holds Inv-loop μ-loop
 loop-holds c = search laws
 
-kind-requires : tie.Need-kind-requires Inv-loop μ-loop
-kind-requires c κs = search laws
+line-at-requires : tie.Need-line-at-requires Inv-loop μ-loop
+line-at-requires c κs = search laws
+
+cast-kind : tie.Need-cast-kind Inv-loop μ-loop
+cast-kind c = search laws
 
 may-pass-requires : tie.Need-may-pass-requires Inv-loop μ-loop
 may-pass-requires c κs = search laws
@@ -54,9 +56,10 @@ unknown-verdict-spec =
     (tie.spec
     Inv-loop
     μ-loop
-    count-requires
+    line-count-requires
     loop-holds
-    kind-requires
+    line-at-requires
+    cast-kind
     may-pass-requires
     cast-refused
     refused-requires
