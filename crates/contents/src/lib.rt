@@ -1,9 +1,8 @@
-// The contents of an image: what a line says, where its body stands, and refusals 5 to 7. Every function answers for every slice.
+// The contents of an image: what a line says, and refusals 5 to 7. Every function answers for every slice.
 ghost use mathlib.Core.Path.{_≡_};
 ghost use Rattle.numbers.specs.Fields.{numberAt};
-ghost use Rattle.numbers.specs.Slices.{IsPart};
-ghost use Rattle.image.specs.Contents.{lineCount, linePlace, offsetAt, lengthAt, contentsVerdict};
-ghost use Rattle.contents.specs.Lines.{lineAt};
+ghost use Rattle.image.specs.Contents.{lineCount, contentsVerdict};
+ghost use Rattle.contents.specs.Lines.{lineIn, lineAt};
 use numbers::fields;
 use numbers::slices;
 use refusals::Verdict;
@@ -26,37 +25,66 @@ pub fn line_count(image: &[u8]) -> usize
     fields::number1(image, 1) as usize
 }
 
-// A line's eight bytes as one number, so that one bounds check serves all its fields. Past 2^60 lines a place has no room in 64
-// bits, and no slice goes so far.
-fn line_bytes(image: &[u8], line: usize) -> u64
-    ensures { λ r. ⌜ r ≡ numberAt 8 (now (image .entry)) (linePlace line) ⌝ }
+// A line's bytes as one number, so that one bounds check serves all its fields. Not by `number8`, which called from here too
+// would no longer be inlined anywhere.
+fn eight_bytes(bytes: &[u8]) -> u64
+    ensures { λ r. ⌜ r ≡ numberAt 8 (now (bytes .entry)) 0 ⌝ }
 {
-    if 1152921504606846976 <= line {
-        return 0;
+    if bytes.len() < 8 {
+        let low = fields::number4(bytes, 0) as u64;
+        let high = fields::number4(bytes, 4) as u64;
+        return low + 4294967296 * high;
     }
-    fields::number8(image, 2 + 8 * line)
+    fields::number_of_8([
+        bytes[0],
+        bytes[1],
+        bytes[2],
+        bytes[3],
+        bytes[4],
+        bytes[5],
+        bytes[6],
+        bytes[7],
+    ])
 }
 
-// Bytes past the end are 0.
+// The line that these bytes begin with; bytes past the end are 0. Whoever lends eight bytes pays for no bounds check.
+pub fn line_in(bytes: &[u8]) -> Line
+    ensures { λ r. ⌜ r ≡ lineIn (now (bytes .entry)) ⌝ }
+{
+    let all = eight_bytes(bytes);
+    Line {
+        kind: (all % 256) as u8,
+        zero: (all / 256 % 256) as u8,
+        offset: (all / 65536 % 65536) as u16,
+        length: (all / 4294967296 % 65536) as u16,
+        sum: (all / 281474976710656) as u16,
+    }
+}
+
+// Past 2^60 lines a place has no room in 64 bits, and no slice goes so far.
+fn line_beyond(image: &[u8], line: usize) -> Line
+    ensures { λ r. ⌜ r ≡ lineAt (now (image .entry)) line ⌝ }
+{
+    if 1152921504606846976 <= line {
+        return line_in(slices::part(image, 0, 0));
+    }
+    line_in(slices::part(image, 2 + 8 * line, 8))
+}
+
+// Where all the lines are there, which is tested for all of them alike so that a loop tests it once, a line is read with no
+// further bounds check.
 pub fn line_at(image: &[u8], line: usize) -> Line
     ensures { λ r. ⌜ r ≡ lineAt (now (image .entry)) line ⌝ }
 {
-    let bytes = line_bytes(image, line);
-    Line {
-        kind: (bytes % 256) as u8,
-        zero: (bytes / 256 % 256) as u8,
-        offset: (bytes / 65536 % 65536) as u16,
-        length: (bytes / 4294967296 % 65536) as u16,
-        sum: (bytes / 281474976710656) as u16,
+    let count = line_count(image);
+    if count <= line {
+        return line_beyond(image, line);
     }
-}
-
-// The body of a line, as much of it as is there: the caller's own memory.
-pub fn body_at(image: &[u8], line: usize) -> &[u8]
-    ensures { λ r. ⌜ IsPart (image .entry) r (offsetAt (now (image .entry)) line) (lengthAt (now (image .entry)) line) ⌝ }
-{
-    let stated = line_at(image, line);
-    slices::part(image, stated.offset as usize, stated.length as usize)
+    if image.len() < 2 + 8 * count {
+        return line_beyond(image, line);
+    }
+    let place = 2 + 8 * line;
+    line_in(&image[place..place + 8])
 }
 
 // Refusals 5 to 7 of an image of this size, by its contents alone: the bodies need not be there.

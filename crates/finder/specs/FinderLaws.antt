@@ -1,7 +1,7 @@
 -- One law for each way out of the finder's functions.
 use mathlib.Core.Bool.{true, false}
 use mathlib.Core.List.{List, []}
-use mathlib.Core.Path.{_≡_, sym, _∙_}
+use mathlib.Core.Path.{_≡_, refl, sym, _∙_}
 use Prim.Native.Nat.{ℕ, _+_, _-_, _≤_, _<_, min}
 use native.Mathlib.Nat.{sub-zero}
 use native.Mathlib.Omega.{arith}
@@ -80,6 +80,11 @@ part-found image r kind place e p =
       block = p .block;
       place = p .place ∙ rw (part-starts (now image) kind place there);
     }
+
+-- so in a good layout the part at a stated place is what is found
+pub stated-found : (image r : RefT (List ℕ)) (kind : ℕ) (place : Place) → layoutVerdict (now image) ≡ Accepted → place ≡ statedPlace (now image) kind
+    → IsPart image r (startOf place) (lengthOf place) → Found image r kind
+stated-found image r kind place good e p = part-found image r kind place (place-good (now image) kind Accepted (sym good) place refl e) p
 
 module _ (image : List ℕ) (kind : ℕ) (place : Place) (p : place ≡ placed (foundOffset image kind) (found image kind)) where
   is-there : (said : Place) → place ≡ said → isThere (bodySaid image said) ≡ isThere (found image kind)

@@ -1,22 +1,29 @@
 // The layout of an image judged: refusals 5 to 8, each check finished for the whole image before the next.
 ghost use mathlib.Core.Path.{_≡_};
+ghost use lib.ListN.{length};
+ghost use Rattle.image.specs.Contents.{contentsVerdict};
 ghost use Rattle.image.specs.Layout.{allSums, layoutVerdict};
 use numbers::slices;
 use refusals::Verdict;
 use refusals::refused;
 
-// Refusal 8.
+// Refusal 8. The contents are good, so every line is there, and every body right after the one before: neither is tested for.
 fn sums(image: &[u8]) -> Verdict
+    requires { ⌜ contentsVerdict (length (now image)) (now image) ≡ Verdict.Accepted ⌝ }
     ensures { λ r. ⌜ r ≡ allSums (now (image .entry)) ⌝ }
 {
     let count = contents::line_count(image);
     let mut i = 0;
+    let mut offset = 2 + 8 * count;
     while i < count {
-        let line = contents::line_at(image, i);
-        let body = slices::part(image, line.offset as usize, line.length as usize);
+        let place = 2 + 8 * i;
+        let line = contents::line_in(&image[place..place + 8]);
+        let end = offset + line.length as usize;
+        let body = &image[offset..end];
         if slices::byte_sum(body) != line.sum {
             return refused(8, i as u64);
         }
+        offset = end;
         i += 1;
     }
     Verdict::Accepted

@@ -28,7 +28,7 @@ use Rattle.reading.specs.declared.Trimming.the-variants.{Untrimmed, By}
 use Rattle.reading.specs.Measured.{measuredOf}
 use Rattle.panel.specs.Verdict.{verdictOf}
 use Rattle.panel.specs.Reading.{trimmingOf, sectionsReading, readingOf}
-use Rattle.panel.specs.FirstKindsLaws.{Leads, next-leads}
+use Rattle.panel.specs.LinesLaws.{Leads, next-leads}
 
 module _ (image : List ℕ) (b : Bool) (e : b ≡ isThere (bodyOf 4 (sections image))) where
   pub trimmed-by : (body : List ℕ) (trim : Trim) → Leads image 3 → not b ≡ false → body ≡ bodyAt image 3 → trim ≡ trimOf body

@@ -3,8 +3,8 @@
 // Which kinds a level knows.
 mod levels;
 
-// Whether the next of the first kinds is there.
-mod first_kinds;
+// The contents lines of an image whose layout is good.
+mod lines;
 
 // The verdict on an image.
 mod verdicts;

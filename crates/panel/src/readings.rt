@@ -1,4 +1,4 @@
-use crate::first_kinds;
+use crate::lines;
 use crate::verdicts::verdict;
 use reading::Answer;
 use reading::Counts;
@@ -7,17 +7,17 @@ use refusals::Verdict;
 ghost use mathlib.Core.Path.{_≡_};
 ghost use Rattle.image.specs.Sections.{sections};
 ghost use Rattle.image.specs.Find.{bodyOf};
-ghost use Rattle.panel.specs.FirstKindsLaws.{Leads};
+ghost use Rattle.panel.specs.LinesLaws.{Leads};
 ghost use Rattle.panel.specs.Reading.{trimmingOf, sectionsReading, readingOf};
 
 fn trimming(image: &[u8]) -> Trimming
     requires { ⌜ Leads (now image) 3 ⌝ }
     ensures { λ r. ⌜ r ≡ trimmingOf (bodyOf 4 (sections (now (image .entry)))) ⌝ }
 {
-    if !first_kinds::has_next(image, 3) {
+    if !lines::has_next(image, 3) {
         return Trimming::Untrimmed;
     }
-    Trimming::By(bodies::read_trim(contents::body_at(image, 3)))
+    Trimming::By(bodies::read_trim(lines::body(image, 3)))
 }
 
 fn measured(image: &[u8], counts: Counts) -> Answer
@@ -26,9 +26,9 @@ fn measured(image: &[u8], counts: Counts) -> Answer
 {
     reading::measured(
         counts,
-        bodies::read_identity(contents::body_at(image, 0)),
-        contents::body_at(image, 1),
-        contents::body_at(image, 2),
+        bodies::read_identity(lines::body(image, 0)),
+        lines::body(image, 1),
+        lines::body(image, 2),
         trimming(image),
     )
 }

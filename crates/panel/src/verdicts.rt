@@ -1,10 +1,11 @@
-use crate::first_kinds;
 use crate::levels;
+use crate::lines;
 use refusals::Verdict;
 use refusals::refused;
 ghost use mathlib.Core.Path.{_≡_};
 ghost use Rattle.image.specs.Layout.{layoutVerdict};
 ghost use Rattle.image.specs.Sections.{sections};
+ghost use Rattle.panel.specs.LinesLaws.{HasLine};
 ghost use Rattle.panel.specs.BodiesLaws.{lineVerdict};
 ghost use Rattle.panel.specs.Verdict.{levelVerdict, unknownVerdict, missingVerdict, kindVerdict, bodiesVerdict, sectionsVerdict, verdictOf};
 
@@ -20,12 +21,13 @@ fn level_verdict(level: u32) -> Verdict
 
 // Refusal 9.
 fn unknown_verdict(image: &[u8], level: u32) -> Verdict
+    requires { ⌜ layoutVerdict (now image) ≡ Verdict.Accepted ⌝ }
     ensures { λ r. ⌜ r ≡ unknownVerdict level (sections (now (image .entry))) ⌝ }
 {
     let count = contents::line_count(image);
     let mut i: usize = 0;
     while i < count {
-        let line = contents::line_at(image, i);
+        let line = lines::stated(image, i);
         let kind = line.kind as u32;
         if !levels::may_pass(level, kind) {
             return refused(9, kind as u64);
@@ -40,13 +42,13 @@ fn missing_verdict(image: &[u8]) -> Verdict
     requires { ⌜ layoutVerdict (now image) ≡ Verdict.Accepted ⌝ }
     ensures { λ r. ⌜ r ≡ missingVerdict (sections (now (image .entry))) ⌝ }
 {
-    if !first_kinds::has_next(image, 0) {
+    if !lines::has_next(image, 0) {
         return refused(10, 1);
     }
-    if !first_kinds::has_next(image, 1) {
+    if !lines::has_next(image, 1) {
         return refused(10, 2);
     }
-    if !first_kinds::has_next(image, 2) {
+    if !lines::has_next(image, 2) {
         return refused(10, 3);
     }
     Verdict::Accepted
@@ -67,14 +69,15 @@ fn kind_verdict(kind: u32, body: &[u8]) -> Verdict
 
 // The body of a line, if the level knows its kind.
 fn line_verdict(image: &[u8], level: u32, line: usize) -> Verdict
+    requires { ⌜ HasLine (now image) line ⌝ }
     ensures { λ r. ⌜ r ≡ lineVerdict level (now (image .entry)) line ⌝ }
 {
-    let stated = contents::line_at(image, line);
-    let kind = stated.kind as u32;
+    let said = lines::stated(image, line);
+    let kind = said.kind as u32;
     if !levels::knows(level, kind) {
         return Verdict::Accepted;
     }
-    kind_verdict(kind, contents::body_at(image, line))
+    kind_verdict(kind, lines::body(image, line))
 }
 
 // Refusals 11, 12, 13, 15, 16, in one walk over the contents lines: their kinds rise as these numbers do.

@@ -1,9 +1,9 @@
 use borrow.Author.Needs.{needs}
-use Rattle.layout.specs.SumsLaws.{contents-decide, sums-decide}
+use Rattle.layout.specs.SumsLaws.{contents-decide, contents-good, sums-decide}
 use Rattle.layout.proofs.layout.Statement.{statement}
 use Rattle.layout.proofs.layout.Tie as tie
 
-ruleset laws = (needs, contents-decide, sums-decide)
+ruleset laws = (needs, contents-decide, contents-good, sums-decide)
 
 contents-verdict-requires : tie.Need-contents-verdict-requires
 contents-verdict-requires c κs = search laws

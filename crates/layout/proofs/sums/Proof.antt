@@ -1,34 +1,68 @@
-use Prim.Native.Nat.{_-_}
+use Prim.Native.Nat.{_-_, _≤_}
+use native.Mathlib.Omega.{arith}
 use borrow.Author.Needs.{needs}
-use Rattle.layout.specs.SumsLaws.{Summed, summed-first, sums-stop, sums-more, sums-end}
+use Rattle.layout.specs.SumsLaws.{Summed, lines-few, summed-first, line-there, body-there, sums-stop, sums-more, sums-end}
 use Rattle.layout.proofs.sums.Statement.{statement}
 use Rattle.layout.proofs.sums.Tie as tie
 
-ruleset laws = (needs, summed-first, sums-stop, sums-more, sums-end)
+ruleset laws = (needs, summed-first, line-there, body-there, sums-stop, sums-more, sums-end)
 
 abbrev Inv-loop : tie.InvT-loop
-Inv-loop image count i₀ i = Summed image count i
+Inv-loop image count i₀ offset₀ i offset = Summed image count i offset
 
 abbrev μ-loop : tie.MeasureT-loop
-μ-loop image count i₀ i = count - i
+μ-loop image count i₀ offset₀ i offset = count - i
+
+few : (c : tie.After-line-count Inv-loop μ-loop) → c .line-count .result ≤ 16
+few c = lines-few _ _ (c .before .before .pre) (c .line-count .ensures)
 
 line-count-requires : tie.Need-line-count-requires Inv-loop μ-loop
 line-count-requires c κs = search laws
 
+mul-offset : tie.Need-mul-offset Inv-loop μ-loop
+mul-offset c = omega (arith, few c)
+
+add-offset : tie.Need-add-offset Inv-loop μ-loop
+add-offset c = omega (arith, few c)
+
 loop-holds : tie.Need-loop-holds Inv-loop μ-loop
 loop-holds c = search laws
 
-line-at-requires : tie.Need-line-at-requires Inv-loop μ-loop
-line-at-requires c κs = search laws
+mul-place : tie.Need-mul-place Inv-loop μ-loop
+mul-place c = search laws
 
-cast-part : tie.Need-cast-part Inv-loop μ-loop
-cast-part c = search laws
+add-place : tie.Need-add-place Inv-loop μ-loop
+add-place c = search laws
 
-cast-part-2 : tie.Need-cast-part-2 Inv-loop μ-loop
-cast-part-2 c = search laws
+add-line-in : tie.Need-add-line-in Inv-loop μ-loop
+add-line-in c = search laws
 
-part-requires : tie.Need-part-requires Inv-loop μ-loop
-part-requires c κs = search laws
+sub-line-in : tie.Need-sub-line-in Inv-loop μ-loop
+sub-line-in c = search laws
+
+part-line-in-start : tie.Need-part-line-in-start Inv-loop μ-loop
+part-line-in-start c = search laws
+
+part-line-in-end : tie.Need-part-line-in-end Inv-loop μ-loop
+part-line-in-end c = search laws
+
+line-in-requires : tie.Need-line-in-requires Inv-loop μ-loop
+line-in-requires c κs = search laws
+
+cast-end : tie.Need-cast-end Inv-loop μ-loop
+cast-end c = search laws
+
+add-end : tie.Need-add-end Inv-loop μ-loop
+add-end c = search laws
+
+sub-body : tie.Need-sub-body Inv-loop μ-loop
+sub-body c = search laws
+
+part-body-start : tie.Need-part-body-start Inv-loop μ-loop
+part-body-start c = search laws
+
+part-body-end : tie.Need-part-body-end Inv-loop μ-loop
+part-body-end c = search laws
 
 byte-sum-requires : tie.Need-byte-sum-requires Inv-loop μ-loop
 byte-sum-requires c κs = search laws
@@ -58,11 +92,21 @@ sums-spec =
     Inv-loop
     μ-loop
     line-count-requires
+    mul-offset
+    add-offset
     loop-holds
-    line-at-requires
-    cast-part
-    cast-part-2
-    part-requires
+    mul-place
+    add-place
+    add-line-in
+    sub-line-in
+    part-line-in-start
+    part-line-in-end
+    line-in-requires
+    cast-end
+    add-end
+    sub-body
+    part-body-start
+    part-body-end
     byte-sum-requires
     refused-requires
     returns

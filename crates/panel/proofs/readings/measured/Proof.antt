@@ -1,25 +1,26 @@
 use borrow.Author.Needs.{needs}
+use Rattle.panel.specs.LinesLaws.{first-line}
 use Rattle.panel.specs.ReadingLaws.{sections-measured}
 use Rattle.panel.proofs.readings.measured.Statement.{statement}
 use Rattle.panel.proofs.readings.measured.Tie as tie
 
-body-at-requires : tie.Need-body-at-requires
-body-at-requires c κs = search needs
+body-requires : tie.Need-body-requires
+body-requires c κs = search (needs, first-line)
 
 read-identity-requires : tie.Need-read-identity-requires
-read-identity-requires c κs = search needs
+read-identity-requires c κs = search (needs, first-line)
 
-body-at-requires-2 : tie.Need-body-at-requires-2
-body-at-requires-2 c κs = search needs
+body-requires-2 : tie.Need-body-requires-2
+body-requires-2 c κs = search (needs, first-line)
 
-body-at-requires-3 : tie.Need-body-at-requires-3
-body-at-requires-3 c κs = search needs
+body-requires-3 : tie.Need-body-requires-3
+body-requires-3 c κs = search (needs, first-line)
 
 trimming-requires : tie.Need-trimming-requires
-trimming-requires c κs = search needs
+trimming-requires c κs = search (needs, first-line)
 
 measured-requires : tie.Need-measured-requires
-measured-requires c κs = search needs
+measured-requires c κs = search (needs, first-line)
 
 returns : tie.Need-returns
 returns c = search (needs, sections-measured)
@@ -28,10 +29,10 @@ pub measured-spec : {M : Type 1} → statement M
 measured-spec =
     tie.close
     (tie.spec
-    body-at-requires
+    body-requires
     read-identity-requires
-    body-at-requires-2
-    body-at-requires-3
+    body-requires-2
+    body-requires-3
     trimming-requires
     measured-requires
     returns)

@@ -1,5 +1,5 @@
 use borrow.Author.Needs.{needs}
-use Rattle.panel.specs.FirstKindsLaws.{verdict-leads}
+use Rattle.panel.specs.LinesLaws.{verdict-leads}
 use Rattle.panel.specs.ReadingLaws.{reading-taken, reading-refused}
 use Rattle.panel.proofs.readings.reading.Statement.{statement}
 use Rattle.panel.proofs.readings.reading.Tie as tie

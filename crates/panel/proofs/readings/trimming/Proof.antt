@@ -1,4 +1,5 @@
 use borrow.Author.Needs.{needs}
+use Rattle.panel.specs.LinesLaws.{next-line}
 use Rattle.panel.specs.ReadingLaws.{trimmed-by, untrimmed}
 use Rattle.panel.proofs.readings.trimming.Statement.{statement}
 use Rattle.panel.proofs.readings.trimming.Tie as tie
@@ -9,8 +10,8 @@ has-next-requires c κs = search needs
 returns : tie.Need-returns
 returns c = search (needs, untrimmed)
 
-body-at-requires : tie.Need-body-at-requires
-body-at-requires c κs = search needs
+body-requires : tie.Need-body-requires
+body-requires c κs = search (needs, next-line)
 
 read-trim-requires : tie.Need-read-trim-requires
 read-trim-requires c κs = search needs
@@ -20,4 +21,4 @@ returns-2 c = search (needs, trimmed-by)
 
 pub trimming-spec : {M : Type 1} → statement M
 trimming-spec =
-    tie.close (tie.spec has-next-requires returns body-at-requires read-trim-requires returns-2)
+    tie.close (tie.spec has-next-requires returns body-requires read-trim-requires returns-2)

@@ -1,11 +1,12 @@
 use Prim.Native.Nat.{_-_}
 use borrow.Author.Needs.{needs}
 use Rattle.panel.specs.BodiesLaws.{sectionBySection}
+use Rattle.panel.specs.LinesLaws.{has-line}
 use Rattle.panel.specs.VerdictLaws.{Passing, passing-first, bodies-more, body-refused, bodies-passed}
 use Rattle.panel.proofs.verdicts.bodies_verdict.Statement.{statement}
 use Rattle.panel.proofs.verdicts.bodies_verdict.Tie as tie
 
-ruleset laws = (needs, passing-first, bodies-more, body-refused, bodies-passed)
+ruleset laws = (needs, has-line, passing-first, bodies-more, body-refused, bodies-passed)
 
 abbrev Inv-loop : tie.InvT-loop
 Inv-loop image level count line₀ line = Passing (sectionBySection level) image count line

@@ -1,7 +1,7 @@
 use borrow.Author.Needs.{needs}
 use Rattle.refusals.specs.VerdictLaws.{stops-there}
 use Rattle.panel.specs.Verdict.{missingVerdict}
-use Rattle.panel.specs.FirstKindsLaws.{none-leads, first-leads, second-leads}
+use Rattle.panel.specs.LinesLaws.{none-leads, first-leads, second-leads}
 use Rattle.panel.specs.VerdictLaws.{is-missing, next-after, is-present}
 use Rattle.panel.proofs.verdicts.missing_verdict.Statement.{statement}
 use Rattle.panel.proofs.verdicts.missing_verdict.Tie as tie

@@ -1,7 +1,7 @@
 use borrow.Author.Needs.{needs}
-use Rattle.panel.specs.FirstKindsLaws.{no-next, next-here}
-use Rattle.panel.proofs.first_kinds.has_next.Statement.{statement}
-use Rattle.panel.proofs.first_kinds.has_next.Tie as tie
+use Rattle.panel.specs.LinesLaws.{has-line, no-next, next-here}
+use Rattle.panel.proofs.lines.has_next.Statement.{statement}
+use Rattle.panel.proofs.lines.has_next.Tie as tie
 
 line-count-requires : tie.Need-line-count-requires
 line-count-requires c κs = search needs
@@ -9,8 +9,8 @@ line-count-requires c κs = search needs
 returns : tie.Need-returns
 returns c = search (needs, no-next)
 
-line-at-requires : tie.Need-line-at-requires
-line-at-requires c κs = search needs
+stated-requires : tie.Need-stated-requires
+stated-requires c κs = search (needs, has-line)
 
 add-result : tie.Need-add-result
 add-result c = search needs
@@ -23,4 +23,4 @@ returns-2 c = search (needs, next-here)
 
 pub has-next-spec : {M : Type 1} → statement M
 has-next-spec =
-    tie.close (tie.spec line-count-requires returns line-at-requires add-result cast-result returns-2)
+    tie.close (tie.spec line-count-requires returns stated-requires add-result cast-result returns-2)

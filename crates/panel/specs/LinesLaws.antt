@@ -1,4 +1,4 @@
--- The first kinds stand at the first lines of a good layout.
+-- Laws of the contents lines of a good layout: their bytes are there, and the first kinds stand at the first lines.
 use mathlib.Core.Path.{_≡_, refl, sym, _∙_}
 use mathlib.Core.Bool.{Bool, true, false, cond, not}
 use mathlib.Core.List.{List}
@@ -8,19 +8,41 @@ use native.Mathlib.Nat.{sub-zero}
 use native.Mathlib.Omega.{arith}
 use borrow.Author.Tests.{eq-eqb, eqb-true, ne-eqb, not-false}
 use lib.Dec.{eqb}
+use lib.ListN.{length, take, drop}
 use Rattle.laws.specs.Cases.{split, decide, never}
 use Rattle.laws.specs.Loops.{one-left, none-left}
 use Rattle.refusals.specs.declared.Verdict.{Verdict}
 use Rattle.refusals.specs.declared.Verdict.the-variants.{Accepted}
 use Rattle.refusals.specs.VerdictLaws.{asked, first-passed, next-passed}
-use Rattle.image.specs.Contents.{lineCount, kindAt}
+use Rattle.image.specs.Contents.{lineCount, linePlace, kindAt, offsetAt, lengthAt}
 use Rattle.image.specs.Layout.{bodyAt, layoutVerdict}
+use Rattle.image.specs.LayoutLaws.{layout-passed, body-within}
 use Rattle.image.specs.Sections.{sectionsFrom, sections}
 use Rattle.image.specs.Find.{bodyOf, isThere}
 use Rattle.image.specs.OrderLaws.{Ascending, sections-ascend, none-below}
 use Rattle.contents.specs.declared.Line.{Line}
 use Rattle.contents.specs.Lines.{lineAt}
 use Rattle.panel.specs.Verdict.{presentVerdict, missingVerdict, sectionsVerdict, verdictOf}
+
+-- ---- what is there
+
+pub record HasLine (image : List ℕ) (line : ℕ) : Type 0 where
+  pub room : linePlace (line + 1) ≤ length image
+  pub inside : offsetAt image line + lengthAt image line ≤ length image
+
+module _ (image : List ℕ) (good : layoutVerdict image ≡ Accepted) where
+  pub has-line : (count line : ℕ) → count ≡ lineCount image → line < count → HasLine image line
+  has-line count line c h =
+      record { room = omega (arith, layout-passed image good .contents .counted .room); inside = body-within image good line (omega arith) }
+
+module _ (image : List ℕ) (line : ℕ) (said : Line) (e : said ≡ lineAt image line) where
+  pub body-inside : HasLine image line → said .offset + said .length ≤ length image
+  body-inside h = rw e (h .inside)
+
+  pub line-body : take (said .offset + said .length - said .offset) (drop (said .offset) image) ≡ bodyAt image line
+  line-body = let long : said .offset + said .length - said .offset ≡ said .length = omega arith in rw (long, e)
+
+-- ---- the first kinds
 
 -- the lines before this one have kinds 1, 2, 3 and so on, and it and those after it have all others
 pub record Leads (image : List ℕ) (line : ℕ) : Type 0 where
@@ -77,9 +99,9 @@ module _ (line : ℕ) (image : List ℕ) (l : Leads image line) where
   pub no-next : (count : ℕ) → count ≡ lineCount image → count ≤ line → false ≡ isThere (bodyOf (line + 1) (sections image))
   no-next count c end = rw (next-past (omega arith))
 
-  pub next-here : (count : ℕ) (stated : Line) → count ≡ lineCount image → line < count → stated ≡ lineAt image line
-      → eqb (line + 1) (stated .kind) ≡ isThere (bodyOf (line + 1) (sections image))
-  next-here count stated c more k = rw (next-body (omega arith), k) (decide (eqb (line + 1) (kindAt image line)) (λ e. rw e) (λ e. rw e))
+  pub next-here : (count : ℕ) (said : Line) → count ≡ lineCount image → line < count → said ≡ lineAt image line
+      → eqb (line + 1) (said .kind) ≡ isThere (bodyOf (line + 1) (sections image))
+  next-here count said c more k = rw (next-body (omega arith), k) (decide (eqb (line + 1) (kindAt image line)) (λ e. rw e) (λ e. rw e))
 
   module _ (b : Bool) (e : b ≡ isThere (bodyOf (line + 1) (sections image))) (t : not b ≡ false) where
     pub next-leads : Leads image (line + 1)
@@ -92,12 +114,18 @@ module _ (line : ℕ) (image : List ℕ) (l : Leads image line) where
         (λ f. one-leads more (sym (eqb-true (line + 1) (kindAt image line) f)))
         (λ f. never (rw (next-body more, f) at there)))
 
+    pub next-line : HasLine image line
+    next-line = has-line image (l .good) (lineCount image) line refl (omega (arith, next-leads .enough))
+
 module _ (image : List ℕ) (good : layoutVerdict image ≡ Accepted) (b : Bool) (e : b ≡ isThere (bodyOf 1 (sections image))) (t : not b ≡ false) where
   pub first-leads : Leads image 1
   first-leads = next-leads 0 image (none-leads image good) b e t
 
   pub second-leads : (c : Bool) → c ≡ isThere (bodyOf 2 (sections image)) → not c ≡ false → Leads image 2
   second-leads c f u = next-leads 1 image first-leads c f u
+
+pub first-line : (image : List ℕ) (all line : ℕ) → Leads image all → line < all → HasLine image line
+first-line image all line l h = has-line image (l .good) (lineCount image) line refl (omega (arith, l .enough))
 
 -- ---- where a panel accepts
 
