@@ -8,7 +8,7 @@ body-requires : tie.Need-body-requires
 body-requires c κs = search (needs, first-line)
 
 read-identity-requires : tie.Need-read-identity-requires
-read-identity-requires c κs = search (needs, first-line)
+read-identity-requires c κs = search needs
 
 body-requires-2 : tie.Need-body-requires-2
 body-requires-2 c κs = search (needs, first-line)
@@ -17,10 +17,10 @@ body-requires-3 : tie.Need-body-requires-3
 body-requires-3 c κs = search (needs, first-line)
 
 trimming-requires : tie.Need-trimming-requires
-trimming-requires c κs = search (needs, first-line)
+trimming-requires c κs = search needs
 
 measured-requires : tie.Need-measured-requires
-measured-requires c κs = search (needs, first-line)
+measured-requires c κs = search needs
 
 returns : tie.Need-returns
 returns c = search (needs, sections-measured)
