@@ -16,7 +16,8 @@ use Rattle.laws.specs.Bytes.{Bytes}
 use Rattle.laws.specs.Cases.{split, decide}
 use Rattle.refusals.specs.declared.Verdict.the-variants.{Accepted}
 use Rattle.refusals.specs.Refusals.{refusal, result, refused}
-use Rattle.image.specs.Layout.{lineCount, linePlace, kindAt, offsetAt, lengthAt, bodyAt, layoutVerdict}
+use Rattle.image.specs.Contents.{lineCount, linePlace, kindAt, offsetAt, lengthAt}
+use Rattle.image.specs.Layout.{bodyAt, layoutVerdict}
 use Rattle.image.specs.LayoutLaws.{body-within}
 use Rattle.image.specs.Sections.{sectionsFrom, sections, bodiesOf, imageOf}
 use Rattle.image.specs.RoundTrip.{image-bodies}

@@ -10,7 +10,8 @@ use Rattle.paper.specs.Table.{NoneGiven}
 use Rattle.paper.specs.Image.{offsetOf, HasKind, HasBody, layoutTable}
 use Rattle.refusals.specs.declared.Verdict.{Verdict}
 use Rattle.refusals.specs.declared.Verdict.the-variants.{Accepted, Refused}
-use Rattle.image.specs.Layout.{lineCount, offsetAt, layoutVerdict}
+use Rattle.image.specs.Contents.{lineCount, offsetAt}
+use Rattle.image.specs.Layout.{layoutVerdict}
 use Rattle.image.specs.Sections.{sections}
 use Rattle.image.specs.Find.{bodyOf, whereGood, found, offsetFrom, foundOffset}
 use Rattle.image.specs.FindLaws.{found-good, offset-good}

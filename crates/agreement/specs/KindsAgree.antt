@@ -11,7 +11,8 @@ use Rattle.paper.specs.Words.{Not}
 use Rattle.paper.specs.Image.{HasKind, HasBody}
 use Rattle.laws.specs.Cases.{split, decide}
 use Rattle.refusals.specs.declared.Verdict.the-variants.{Accepted}
-use Rattle.image.specs.Layout.{lineCount, kindAt, bodyAt, layoutVerdict}
+use Rattle.image.specs.Contents.{lineCount, kindAt}
+use Rattle.image.specs.Layout.{bodyAt, layoutVerdict}
 use Rattle.image.specs.Sections.{sectionsFrom, sections}
 use Rattle.image.specs.Find.{bodyOf, isThere, orElse}
 use Rattle.image.specs.OrderLaws.{Ascending, sections-ascend}

@@ -1,24 +1,27 @@
 -- The layout's verdict is document 01's: the first of 5 to 8 that is given.
-use mathlib.Core.Bool.{Bool, true, false, and-assoc}
+use mathlib.Core.Bool.{Bool, true, false, _&&_, and-assoc}
 use mathlib.Core.List.{List, [], _∷_}
 use mathlib.Core.Logic.{inl, inr, ⊎-elim, _↔_}
 use mathlib.Core.Path.{_≡_, refl}
 use Prim.Native.Nat.{ℕ, zero, suc, _+_, _*_, _%_, _≤_, _<_}
 use native.Mathlib.Numerals.{add-one}
 use native.Mathlib.Omega.{arith}
-use lib.Dec.{eqb}
+use lib.Dec.{leb, eqb}
 use lib.ListN.{length}
 use Rattle.paper.specs.Words.{Not, Lowest}
 use Rattle.paper.specs.Fields.{number, sumFrom}
 use Rattle.paper.specs.Table.{Row, row, NoneGiven, FirstGiven}
 use Rattle.paper.specs.Image.{lineCount, kindOf, zeroByteOf, offsetOf, lengthOf, sumOf, StartWrong, CountWrong, kindBefore, endBefore, BreaksLayout, SumWrong, layoutTable}
 use Rattle.laws.specs.Cases.{split}
+use Rattle.numbers.specs.Fields.{numberAt}
 use Rattle.refusals.specs.declared.Verdict.{Verdict}
 use Rattle.refusals.specs.declared.Verdict.the-variants.{Accepted, Refused}
 use Rattle.refusals.specs.Refusals.{refusal, ask, andThen}
-use Rattle.image.specs.Layout.{lineRight, startVerdict, countVerdict, linesVerdict, sumsVerdict, layoutVerdict}
-use Rattle.image.specs.LayoutLaws.{passed-right}
-use Rattle.agreement.specs.TableLaws.{Gives, Judges, judged-alone, gives-then, Single, row-once, lowest-once, refused-exactly, accepted-exactly}
+use Rattle.refusals.specs.VerdictLaws.{both-asked}
+use Rattle.image.specs.Contents.{lineRight, startVerdict, countVerdict, linesVerdict, contentsVerdict}
+use Rattle.image.specs.Layout.{sumsVerdict, layoutVerdict}
+use Rattle.image.specs.ContentsLaws.{passed-right}
+use Rattle.agreement.specs.TableLaws.{Gives, Judges, judged-alone, gives-append, gives-then, Single, row-once, lowest-once, refused-exactly, accepted-exactly}
 use Rattle.agreement.specs.TestsLaws.{Fails, fails-le, fails-lt, fails-eq, fails-and, fails-as, fails-outside, ask-judges}
 use Rattle.agreement.specs.FieldsAgree.{number-same, sum-is}
 
@@ -48,11 +51,13 @@ module _ (number : ℕ) (P : ℕ → Type 0) (i : ℕ) where
 -- ---- 5 to 8
 
 module _ (image : List ℕ) where
-  start-judges : Judges (row 5 0 (StartWrong image)) (startVerdict image)
+  start-judges : Judges (row 5 0 (StartWrong image)) (startVerdict (length image) image)
   unfolding startVerdict
-  start-judges = rw (← number-same) (ask-judges 5 0 _ (fails-and (fails-outside 2 4096 (length image)) (fails-eq (number 1 image 0) 0x51)))
+  start-judges =
+      rw (both-asked (leb 2 (length image) && leb (length image) 4096) (eqb (numberAt 1 image 0) 0x51) 5 0, ← number-same)
+      (ask-judges 5 0 _ (fails-and (fails-outside 2 4096 (length image)) (fails-eq (number 1 image 0) 0x51)))
 
-  count-judges : Judges (row 6 0 (CountWrong image)) (countVerdict image)
+  count-judges : Judges (row 6 0 (CountWrong image)) (countVerdict (length image) image)
   unfolding countVerdict
   count-judges =
       rw (← number-same) (ask-judges 6 0 _ (fails-and (fails-outside 1 16 (lineCount image)) (fails-le (2 + 8 * lineCount image) (length image))))
@@ -65,7 +70,7 @@ module _ (image : List ℕ) where
       (fails-and (fails-eq (zeroByteOf image i) 0) (fails-eq (offsetOf image i) (endBefore image i)))))
 
   lines-judge : (left i : ℕ) → i + left ≡ lineCount image → NoneBelow (BreaksLayout image) i
-      → Judges (lowest 7 (BreaksLayout image)) (linesVerdict image left i (kindBefore image i) (endBefore image i))
+      → Judges (lowest 7 (BreaksLayout image)) (linesVerdict (length image) image left i (kindBefore image i) (endBefore image i))
   unfolding linesVerdict
   lines-judge zero i h below =
       let last : i ≡ lineCount image = omega arith in
@@ -96,20 +101,29 @@ module _ (image : List ℕ) where
       (lowest-then 8 (SumWrong image) i _ _ fails below
       (λ e. sums-judge left (suc i) (omega arith) (none-next (SumWrong image) i below (fails .good e))))
 
+  -- the contents are judged by 5 to 7
+  pub contents-gives : Gives (row 5 0 (StartWrong image) ∷ row 6 0 (CountWrong image) ∷ lowest 7 (BreaksLayout image) ∷ []) (contentsVerdict (length image) image)
+  unfolding contentsVerdict
+  contents-gives =
+      let count = row 6 0 (CountWrong image) in
+      let line = lowest 7 (BreaksLayout image) in
+      let starts = startVerdict (length image) image in
+      let counts = countVerdict (length image) image in
+      let lines = linesVerdict (length image) image (lineCount image) 0 0 (2 + 8 * lineCount image) in
+      rw (← number-same)
+      (gives-then (row 5 0 (StartWrong image)) (count ∷ line ∷ []) starts (andThen counts lines) start-judges
+      (λ a. gives-then count (line ∷ []) counts lines count-judges
+      (λ b. judged-alone line lines (lines-judge (lineCount image) 0 (omega arith) (λ j h. absurd (omega arith))))))
+
   pub layout-gives : Gives (layoutTable image) (layoutVerdict image)
   unfolding layoutVerdict
   layout-gives =
-      let start = row 5 0 (StartWrong image) in
-      let count = row 6 0 (CountWrong image) in
-      let line = lowest 7 (BreaksLayout image) in
+      let contents = row 5 0 (StartWrong image) ∷ row 6 0 (CountWrong image) ∷ lowest 7 (BreaksLayout image) ∷ [] in
       let sum = lowest 8 (SumWrong image) in
-      let lines = linesVerdict image (lineCount image) 0 0 (2 + 8 * lineCount image) in
       let sums = sumsVerdict image (lineCount image) 0 in
       rw (← number-same)
-      (gives-then start (count ∷ line ∷ sum ∷ []) (startVerdict image) (andThen (countVerdict image) (andThen lines sums)) start-judges
-      (λ a. gives-then count (line ∷ sum ∷ []) (countVerdict image) (andThen lines sums) count-judges
-      (λ b. gives-then line (sum ∷ []) lines sums (lines-judge (lineCount image) 0 (omega arith) (λ j h. absurd (omega arith)))
-      (λ c. judged-alone sum sums (sums-judge (lineCount image) 0 (omega arith) (λ j h. absurd (omega arith)))))))
+      (gives-append contents (sum ∷ []) (contentsVerdict (length image) image) sums contents-gives
+      (λ a. judged-alone sum sums (sums-judge (lineCount image) 0 (omega arith) (λ j h. absurd (omega arith)))))
 
   pub layout-single : Single (layoutTable image)
   layout-single =

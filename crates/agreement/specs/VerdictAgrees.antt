@@ -18,7 +18,8 @@ use Rattle.laws.specs.Cases.{split, decide, never}
 use Rattle.refusals.specs.declared.Verdict.the-variants.{Accepted, Refused}
 use Rattle.refusals.specs.Refusals.{refusal, andThen}
 use Rattle.refusals.specs.VerdictLaws.{asked}
-use Rattle.image.specs.Layout.{lineCount, kindAt, layoutVerdict}
+use Rattle.image.specs.Contents.{lineCount, kindAt}
+use Rattle.image.specs.Layout.{layoutVerdict}
 use Rattle.image.specs.Sections.{sectionsFrom, sections}
 use Rattle.image.specs.Find.{bodyOf, isThere}
 use Rattle.image.specs.OrderLaws.{Ascending, sections-ascend}

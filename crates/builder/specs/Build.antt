@@ -8,7 +8,7 @@ use lib.ListN.{length, take, drop}
 use Rattle.laws.specs.Bytes.{Bytes}
 use Rattle.refusals.specs.declared.Verdict.{Verdict}
 use Rattle.refusals.specs.Refusals.{Outcome, result, checked, ask, andThen}
-use Rattle.image.specs.Layout.{linePlace}
+use Rattle.image.specs.Contents.{linePlace}
 use Rattle.image.specs.Sections.{Section, imageOf}
 use Rattle.builder.specs.declared.Line.{Line}
 

@@ -13,7 +13,7 @@ use Rattle.laws.specs.SumsLaws.{total-more, total-end}
 use Rattle.refusals.specs.declared.Verdict.{Verdict}
 use Rattle.refusals.specs.declared.Verdict.the-variants.{Accepted, Refused}
 use Rattle.refusals.specs.Refusals.{refusal}
-use Rattle.image.specs.Layout.{linePlace}
+use Rattle.image.specs.Contents.{linePlace}
 use Rattle.builder.specs.Build.{kindsRise, buildVerdict}
 use Rattle.builder.specs.Lines.{linesGiven}
 use Rattle.builder.specs.BuildLaws.{line-small, linesRight, lengthsRight, passed}

@@ -18,7 +18,7 @@ use Rattle.refusals.specs.declared.Filled.{Filled}
 use Rattle.refusals.specs.declared.Filled.the-variants.{Length, Refused as NotFilled}
 use Rattle.refusals.specs.Refusals.{result}
 use Rattle.refusals.specs.RefusalsLaws.{Begins}
-use Rattle.image.specs.Layout.{linePlace}
+use Rattle.image.specs.Contents.{linePlace}
 use Rattle.image.specs.Sections.{contentsLine, contentsFrom, imageOf}
 use Rattle.builder.specs.Build.{sectionsOf, buildVerdict, buildImage}
 use Rattle.builder.specs.Lines.{linesGiven}

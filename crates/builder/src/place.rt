@@ -1,7 +1,7 @@
 ghost use mathlib.Core.Path.{_≡_};
 ghost use Prim.Native.Nat.{_+_, _≤_};
 ghost use lib.ListN.{length};
-ghost use Rattle.image.specs.Layout.{linePlace};
+ghost use Rattle.image.specs.Contents.{linePlace};
 
 // Where contents line i stands, and the bodies after the last.
 pub fn line_place(i: usize) -> usize

@@ -5,7 +5,7 @@ ghost use lib.ListN.{length, take, drop};
 ghost use Rattle.laws.specs.Sums.{total};
 ghost use Rattle.refusals.specs.Refusals.{result};
 ghost use Rattle.refusals.specs.RefusalsLaws.{Begins};
-ghost use Rattle.image.specs.Layout.{linePlace};
+ghost use Rattle.image.specs.Contents.{linePlace};
 ghost use Rattle.image.specs.Sections.{contentsLine, contentsFrom, imageOf};
 ghost use Rattle.builder.specs.Build.{sectionsOf};
 ghost use Rattle.builder.specs.Lines.{linesGiven};

@@ -1,7 +1,6 @@
 -- Any two results that a public function's contract allows for one call are equal: the answers, and what each lent buffer holds. The contract is the function's
 -- own: `Learnt` is what Rattle makes of its `ensures`. `tests/contracts` fails where a public function is left out.
 use mathlib.Core.Path.{refl, ap}
-use native.Mathlib.Omega.{arith}
 use lib.IntN.{natAbs}
 use Rattle.whole.proofs as whole
 use Rattle.whole.proofs.rounding as rounding
@@ -10,6 +9,7 @@ use Rattle.numbers.proofs.slices as slices
 use Rattle.refusals.proofs as refusals
 use Rattle.hexread.proofs as hexread
 use Rattle.hexwrite.proofs as hexwrite
+use Rattle.contents.proofs as contents
 use Rattle.layout.proofs as layout
 use Rattle.finder.proofs as finder
 use Rattle.builder.proofs as builder
@@ -67,11 +67,11 @@ signed4-determined _ _ _ _ _ _ = answers
 pub signed8-determined : Determines fields.signed8.ended fields.signed8.Reads.Learnt
 signed8-determined _ _ _ _ _ _ = answers
 
+pub number-of-8-determined : Determines fields.number_of_8.ended fields.number_of_8.Reads.Learnt
+number-of-8-determined _ _ _ _ _ _ = answers
+
 pub signed-of-8-determined : Determines fields.signed_of_8.ended fields.signed_of_8.Reads.Learnt
 signed-of-8-determined _ _ _ _ _ _ = answers
-
-pub side-by-side-determined : Determines fields.side_by_side.ended fields.side_by_side.Reads.Learnt
-side-by-side-determined _ _ _ _ _ _ p q = (omega (arith, determined (p .0) (q .0), determined (p .1) (q .1)), refl)
 
 pub byte-sum-determined : Determines slices.byte_sum.ended slices.byte_sum.Reads.Learnt
 byte-sum-determined _ _ _ _ _ _ = answers
@@ -105,6 +105,19 @@ read-determined _ _ _ _ _ _ p q = next (first (fills p q))
 -- hexwrite
 pub write-determined : Determines hexwrite.write.ended hexwrite.write.Reads.Learnt
 write-determined _ _ _ _ _ _ p q = next (first (fills p q))
+
+-- contents
+pub line-count-determined : Determines contents.line_count.ended contents.line_count.Reads.Learnt
+line-count-determined _ _ _ _ _ _ = answers
+
+pub line-in-determined : Determines contents.line_in.ended contents.line_in.Reads.Learnt
+line-in-determined _ _ _ _ _ _ = answers
+
+pub line-at-determined : Determines contents.line_at.ended contents.line_at.Reads.Learnt
+line-at-determined _ _ _ _ _ _ = answers
+
+pub contents-verdict-determined : Determines contents.contents_verdict.ended contents.contents_verdict.Reads.Learnt
+contents-verdict-determined _ _ _ _ _ _ = answers
 
 -- layout
 pub layout-determined : Determines layout.layout.ended layout.layout.Reads.Learnt

@@ -8,6 +8,7 @@ use Rattle.numbers.proofs.slices as slices
 use Rattle.refusals.proofs as refusals
 use Rattle.hexread.proofs as hexread
 use Rattle.hexwrite.proofs as hexwrite
+use Rattle.contents.proofs as contents
 use Rattle.layout.proofs as layout
 use Rattle.finder.proofs as finder
 use Rattle.builder.proofs as builder
@@ -64,11 +65,11 @@ signed4-free _ _ _ = refl
 pub signed8-free : AsksNothing fields.signed8.ended fields.signed8.Reads.requires
 signed8-free _ _ _ = refl
 
+pub number-of-8-free : AsksNothing fields.number_of_8.ended fields.number_of_8.Reads.requires
+number-of-8-free _ _ _ = refl
+
 pub signed-of-8-free : AsksNothing fields.signed_of_8.ended fields.signed_of_8.Reads.requires
 signed-of-8-free _ _ _ = refl
-
-pub side-by-side-free : AsksNothing fields.side_by_side.ended fields.side_by_side.Reads.requires
-side-by-side-free _ _ _ = refl
 
 pub byte-sum-free : AsksNothing slices.byte_sum.ended slices.byte_sum.Reads.requires
 byte-sum-free _ _ _ = refl
@@ -102,6 +103,19 @@ read-free _ _ _ = refl
 -- hexwrite
 pub write-free : AsksNothing hexwrite.write.ended hexwrite.write.Reads.requires
 write-free _ _ _ = refl
+
+-- contents
+pub line-count-free : AsksNothing contents.line_count.ended contents.line_count.Reads.requires
+line-count-free _ _ _ = refl
+
+pub line-in-free : AsksNothing contents.line_in.ended contents.line_in.Reads.requires
+line-in-free _ _ _ = refl
+
+pub line-at-free : AsksNothing contents.line_at.ended contents.line_at.Reads.requires
+line-at-free _ _ _ = refl
+
+pub contents-verdict-free : AsksNothing contents.contents_verdict.ended contents.contents_verdict.Reads.requires
+contents-verdict-free _ _ _ = refl
 
 -- layout
 pub layout-free : AsksNothing layout.layout.ended layout.layout.Reads.requires

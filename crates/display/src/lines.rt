@@ -1,6 +1,9 @@
 // Each function asks for the room of its words and of 20 digits for each number.
+ghost use mathlib.Core.Path.{_≡_};
 ghost use Prim.Native.Nat.{_+_, _≤_};
 ghost use lib.ListN.{length};
+ghost use Rattle.image.specs.Layout.{layoutVerdict};
+ghost use Rattle.image.specs.Find.{Found};
 ghost use Rattle.display.specs.Page.{refusedWords, identityWords, orderWords, setsWords, acceptedWords, levelLine, textRefused, pageOf};
 ghost use Rattle.display.specs.WordsLaws.{Printed};
 use crate::words::put;
@@ -54,14 +57,23 @@ fn put_sets(page: &mut [u8], at: usize, pressure_set: Set, temperature_set: Set)
     put(page, temperature, b"\n")
 }
 
+// The body of a kind in an image that a panel has judged: the layout is not judged again, as it would be by `find`.
+fn body_of(image: &[u8], kind: u32) -> &[u8]
+    requires { ⌜ layoutVerdict (now image) ≡ Verdict.Accepted ⌝ }
+    ensures { λ r. ⌜ Found (image .entry) r kind ⌝ }
+{
+    finder::part_at(image, finder::stated(image, kind))
+}
+
 fn put_accepted(page: &mut [u8], at: usize, image: &[u8]) -> usize
     requires { ⌜ at + 204 ≤ length (now page) ⌝ }
+    requires { ⌜ layoutVerdict (now image) ≡ Verdict.Accepted ⌝ }
     ensures { λ r. ⌜ Printed at (acceptedWords (now (image .entry))) (now (page .entry)) r (now (page .exit)) ⌝ }
     ensures { λ r. ⌜ r ≤ at + 204 ⌝ }
 {
-    let identity = bodies::read_identity(finder::find(image, 1));
-    let pressure_set = sets::read_set(finder::find(image, 2));
-    let temperature_set = sets::read_set(finder::find(image, 3));
+    let identity = bodies::read_identity(body_of(image, 1));
+    let pressure_set = sets::read_set(body_of(image, 2));
+    let temperature_set = sets::read_set(body_of(image, 3));
     let end = put_identity(page, at, identity);
     put_sets(page, end, pressure_set, temperature_set)
 }

@@ -1,7 +1,7 @@
 -- One law for each way out of the finder's functions.
 use mathlib.Core.Bool.{true, false}
 use mathlib.Core.List.{List, []}
-use mathlib.Core.Path.{_≡_, sym, _∙_}
+use mathlib.Core.Path.{_≡_, refl, sym, _∙_}
 use Prim.Native.Nat.{ℕ, _+_, _-_, _≤_, _<_, min}
 use native.Mathlib.Nat.{sub-zero}
 use native.Mathlib.Omega.{arith}
@@ -12,7 +12,10 @@ use Rattle.numbers.specs.Slices.{IsPart}
 use Rattle.refusals.specs.declared.Refusal.{Refusal}
 use Rattle.refusals.specs.declared.Verdict.{Verdict}
 use Rattle.refusals.specs.declared.Verdict.the-variants.{Accepted, Refused}
-use Rattle.image.specs.Layout.{lineCount, kindAt, offsetAt, lengthAt, layoutVerdict}
+use Rattle.image.specs.Contents.{lineCount, kindAt}
+use Rattle.image.specs.Layout.{layoutVerdict}
+use Rattle.contents.specs.declared.Line.{Line}
+use Rattle.contents.specs.Lines.{lineAt}
 use Rattle.laws.specs.Loops.{one-left, none-left}
 use Rattle.image.specs.Find.{found, foundOffset, isThere, orElse, Found}
 use Rattle.finder.specs.declared.Place.{Place}
@@ -24,21 +27,19 @@ use Rattle.finder.specs.PlacesLaws.{bodySaid, Places, stated-places, ill
 
 pub record Looking (image : List ℕ) (kind count i : ℕ) : Type 0 where
   pub rest : statedFrom image (count - i) i kind ≡ statedPlace image kind
-  pub few : count < 256
 
-pub looking-first : (image : List ℕ) (kind count : ℕ) → count ≡ lineCount image → count < 256 → Looking image kind count 0
-looking-first image kind count c h = record { rest = rw (sub-zero count, c); few = h }
+pub looking-first : (image : List ℕ) (kind count : ℕ) → count ≡ lineCount image → Looking image kind count 0
+looking-first image kind count c = record { rest = rw (sub-zero count, c) }
 
 module _ (image : List ℕ) (kind count i : ℕ) (l : Looking image kind count i) where
-  pub stated-here : (k offset size : ℕ) → i < count → k ≡ kindAt image i → k ≡ kind → offset ≡ offsetAt image i → size ≡ lengthAt image i
-      → At offset size ≡ statedPlace image kind
-  unfolding statedFrom
-  stated-here k offset size more e f o s = rw (o, s) (rw (one-left count i more, eq-eqb kind (kindAt image i) (sym f ∙ e)) at (l .rest))
+  module _ (line : Line) (e : line ≡ lineAt image i) (more : i < count) where
+    pub stated-here : line .kind ≡ kind → At (line .offset) (line .length) ≡ statedPlace image kind
+    unfolding statedFrom
+    stated-here f = rw e (rw (one-left count i more, eq-eqb kind (kindAt image i) (sym f ∙ rw e)) at (l .rest))
 
-  pub looking-more : (k : ℕ) → i < count → k ≡ kindAt image i → (k ≡ kind → ⊥) → Looking image kind count (i + 1)
-  unfolding statedFrom
-  looking-more k more e n =
-      record { rest = rw (one-left count i more, ne-eqb kind (kindAt image i) (λ q. n (e ∙ sym q))) at (l .rest); few = l .few }
+    pub looking-more : (line .kind ≡ kind → ⊥) → Looking image kind count (i + 1)
+    unfolding statedFrom
+    looking-more n = record { rest = rw (one-left count i more, ne-eqb kind (kindAt image i) (λ q. n (rw e (sym q)))) at (l .rest) }
 
   pub stated-nowhere : count ≤ i → Nowhere ≡ statedPlace image kind
   unfolding statedFrom
@@ -79,6 +80,11 @@ part-found image r kind place e p =
       block = p .block;
       place = p .place ∙ rw (part-starts (now image) kind place there);
     }
+
+-- so in a good layout the part at a stated place is what is found
+pub stated-found : (image r : RefT (List ℕ)) (kind : ℕ) (place : Place) → layoutVerdict (now image) ≡ Accepted → place ≡ statedPlace (now image) kind
+    → IsPart image r (startOf place) (lengthOf place) → Found image r kind
+stated-found image r kind place good e p = part-found image r kind place (place-good (now image) kind Accepted (sym good) place refl e) p
 
 module _ (image : List ℕ) (kind : ℕ) (place : Place) (p : place ≡ placed (foundOffset image kind) (found image kind)) where
   is-there : (said : Place) → place ≡ said → isThere (bodySaid image said) ≡ isThere (found image kind)

@@ -5,7 +5,7 @@ use mathlib.Core.Option.{Option, none, some}
 use Prim.Native.Nat.{ℕ, zero, suc, _+_}
 use lib.Dec.{eqb}
 use lib.ListN.{length}
-use Rattle.image.specs.Layout.{lineCount, kindAt, offsetAt, lengthAt}
+use Rattle.image.specs.Contents.{lineCount, kindAt, offsetAt, lengthAt}
 use Rattle.finder.specs.declared.Place.{Place}
 use Rattle.finder.specs.declared.Place.the-variants.{At, Nowhere}
 

@@ -12,7 +12,8 @@ use Rattle.laws.specs.Cases.{decide}
 use Rattle.refusals.specs.declared.Refusal.{Refusal}
 use Rattle.refusals.specs.declared.Verdict.{Verdict}
 use Rattle.refusals.specs.declared.Verdict.the-variants.{Accepted, Refused}
-use Rattle.image.specs.Layout.{lineCount, kindAt, offsetAt, lengthAt, layoutVerdict}
+use Rattle.image.specs.Contents.{lineCount, kindAt, offsetAt, lengthAt}
+use Rattle.image.specs.Layout.{layoutVerdict}
 use Rattle.image.specs.LayoutLaws.{body-within}
 use Rattle.image.specs.Sections.{sectionsFrom, sections}
 use Rattle.image.specs.Find.{bodyOf, found, offsetFrom, foundOffset}

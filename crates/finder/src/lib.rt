@@ -3,7 +3,6 @@ ghost use mathlib.Core.Path.{_≡_};
 ghost use Rattle.numbers.specs.Slices.{IsPart};
 ghost use Rattle.image.specs.Find.{found, foundOffset, isThere, Found};
 ghost use Rattle.finder.specs.Places.{statedPlace, placed, startOf, lengthOf};
-use numbers::fields;
 use numbers::slices;
 use refusals::Verdict;
 
@@ -24,14 +23,12 @@ pub enum Place {
 pub fn stated(image: &[u8], kind: u32) -> Place
     ensures { λ r. ⌜ r ≡ statedPlace (now (image .entry)) kind ⌝ }
 {
-    let count = fields::number1(image, 1) as usize;
+    let count = contents::line_count(image);
     let mut i: usize = 0;
     while i < count {
-        let place = 2 + 8 * i;
-        if fields::number1(image, place) as u32 == kind {
-            let offset = fields::number2(image, place + 2) as usize;
-            let length = fields::number2(image, place + 4) as usize;
-            return Place::At(offset, length);
+        let line = contents::line_at(image, i);
+        if line.kind as u32 == kind {
+            return Place::At(line.offset as usize, line.length as usize);
         }
         i += 1;
     }

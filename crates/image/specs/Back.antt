@@ -12,10 +12,12 @@ use Rattle.laws.specs.Lists.{drop-two}
 use Rattle.laws.specs.Sums.{total}
 use Rattle.numbers.specs.FieldsLaws.{byte-at, number-small}
 use Rattle.refusals.specs.declared.Verdict.the-variants.{Accepted}
-use Rattle.image.specs.Layout.{lineCount, linePlace, kindAt, zeroAt, offsetAt, lengthAt, sumAt, bodyAt, linesVerdict, sumsVerdict, layoutVerdict}
+use Rattle.image.specs.Contents.{lineCount, linePlace, kindAt, zeroAt, offsetAt, lengthAt, sumAt, linesVerdict}
+use Rattle.image.specs.Layout.{bodyAt, sumsVerdict, layoutVerdict}
 use Rattle.image.specs.Sections.{Section, sectionsFrom, sections, contentsFrom, bodiesOf, imageOf, Rising, Fit}
 use Rattle.image.specs.LineLaws.{line-spelled}
-use Rattle.image.specs.LayoutLaws.{line-passed, lines-ended, sum-passed, layout-passed}
+use Rattle.image.specs.ContentsLaws.{line-passed, lines-ended}
+use Rattle.image.specs.LayoutLaws.{sum-passed, layout-passed}
 use Rattle.image.specs.RoundTrip.{Holds}
 use Rattle.image.specs.Find.{bodyOf}
 use Rattle.image.specs.OrderLaws.{sections-ascend, told-by-bodies}
@@ -32,14 +34,14 @@ sections-count image = count-from image (lineCount image) 0
 
 -- ---- the image holds its sections
 
-rising-back : (image : List ℕ) (left i previous offset : ℕ) → Bytes image → linesVerdict image left i previous offset ≡ Accepted
+rising-back : (size : ℕ) (image : List ℕ) (left i previous offset : ℕ) → Bytes image → linesVerdict size image left i previous offset ≡ Accepted
     → Rising previous (sectionsFrom image left i)
 unfolding sectionsFrom
-rising-back image zero i previous offset b e = tt
-rising-back image (suc left) i previous offset b e =
-    let p = line-passed image left i previous offset e in
+rising-back size image zero i previous offset b e = tt
+rising-back size image (suc left) i previous offset b e =
+    let p = line-passed size image left i previous offset e in
     let small = number-small 1 image (linePlace i) b in
-    (p .right .rises, omega arith, rising-back image left (i + 1) (kindAt image i) (offset + lengthAt image i) b (p .others))
+    (p .right .rises, omega arith, rising-back size image left (i + 1) (kindAt image i) (offset + lengthAt image i) b (p .others))
 
 -- a line before the others, whose body stands before theirs
 module _ (image : List ℕ) (i offset : ℕ) (ss : List Section) (h : Holds image (i + 1) (offset + lengthAt image i) ss)
@@ -62,14 +64,14 @@ module _ (image : List ℕ) (i offset : ℕ) (ss : List Section) (h : Holds imag
       }
 
 holds-back : (image : List ℕ) (left i previous offset : ℕ) → Bytes image → linePlace (i + left) ≤ length image
-    → linesVerdict image left i previous offset ≡ Accepted → sumsVerdict image left i ≡ Accepted
+    → linesVerdict (length image) image left i previous offset ≡ Accepted → sumsVerdict image left i ≡ Accepted
     → Holds image i offset (sectionsFrom image left i)
 unfolding sectionsFrom contentsFrom bodiesOf
 holds-back image zero i previous offset b room e f =
-    let end = lines-ended image i previous offset e in
+    let end = lines-ended (length image) image i previous offset e in
     record { contents = rw (add-zero i); bodies = rw end (drop-length image); within = omega arith }
 holds-back image (suc left) i previous offset b room e f =
-    let p = line-passed image left i previous offset e in
+    let p = line-passed (length image) image left i previous offset e in
     let q = sum-passed image left i f in
     let h = holds-back image left (i + 1) (kindAt image i) (offset + lengthAt image i) b (omega arith) (p .others) (q .others) in
     holds-more image i offset (sectionsFrom image left (i + 1)) h (p .right .starts) b (omega arith) (p .right .zero-is) (q .right)
@@ -81,7 +83,8 @@ module _ (image : List ℕ) (b : Bytes image) (good : layoutVerdict image ≡ Ac
   unfolding sections
   held =
       let g = layout-passed image good in
-      holds-back image (lineCount image) 0 0 (linePlace (lineCount image)) b (rw (zero-add (lineCount image)) (g .counted .room)) (g .lines) (g .sums)
+      holds-back image (lineCount image) 0 0 (linePlace (lineCount image)) b (rw (zero-add (lineCount image)) (g .contents .counted .room)) (g .contents .lines)
+      (g .sums)
 
   pub sections-fit : Fit (sections image)
   sections-fit =
@@ -89,10 +92,10 @@ module _ (image : List ℕ) (b : Bytes image) (good : layoutVerdict image ≡ Ac
       let count = sections-count image in
       let long = ap length (held .bodies) in
       record {
-        some = omega (arith, g .counted .some);
-        few = omega (arith, g .counted .few);
-        rising = unfold sections in rising-back image (lineCount image) 0 0 (linePlace (lineCount image)) b (g .lines);
-        room = omega (arith, g .counted .room, g .started .most, length-drop (linePlace (lineCount image)) image);
+        some = omega (arith, g .contents .counted .some);
+        few = omega (arith, g .contents .counted .few);
+        rising = unfold sections in rising-back (length image) image (lineCount image) 0 0 (linePlace (lineCount image)) b (g .contents .lines);
+        room = omega (arith, g .contents .counted .room, g .contents .started .most, length-drop (linePlace (lineCount image)) image);
       }
 
   pub sections-bytes : Bytes (bodiesOf (sections image))
@@ -103,8 +106,8 @@ module _ (image : List ℕ) (b : Bytes image) (good : layoutVerdict image ≡ Ac
   image-of-sections =
       let g = layout-passed image good in
       sym
-      (drop-two image 0 (g .started .enough)
-      ∙ rw (← byte-at image 0, g .started .marked, ← byte-at image 1, held .contents, zero-add (length (sections image)), sections-count image, held .bodies))
+      (drop-two image 0 (g .contents .started .enough)
+      ∙ rw (← byte-at image 0, g .contents .started .marked, ← byte-at image 1, held .contents, zero-add (length (sections image)), sections-count image, held .bodies))
 
 -- so one is told by its bodies: where each kind has the same body in two such images, or none in either, these are equal byte for byte
 pub same-bodies-same-image : (image image′ : List ℕ) → Bytes image → Bytes image′ → layoutVerdict image ≡ Accepted → layoutVerdict image′ ≡ Accepted

@@ -8,7 +8,8 @@ use lib.Dec.{eqb}
 use denote.Ref.{RefT, now, ptr}
 use Rattle.refusals.specs.declared.Verdict.{Verdict}
 use Rattle.refusals.specs.declared.Verdict.the-variants.{Accepted, Refused}
-use Rattle.image.specs.Layout.{lineCount, kindAt, offsetAt, layoutVerdict}
+use Rattle.image.specs.Contents.{lineCount, kindAt, offsetAt}
+use Rattle.image.specs.Layout.{layoutVerdict}
 use Rattle.image.specs.Sections.{Section, sections}
 
 -- the body of a kind among sections

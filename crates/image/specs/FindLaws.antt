@@ -3,7 +3,8 @@ use mathlib.Core.List.{List}
 use mathlib.Core.Path.{_≡_, ap, _∙_}
 use Prim.Native.Nat.{ℕ}
 use Rattle.refusals.specs.declared.Verdict.the-variants.{Accepted}
-use Rattle.image.specs.Layout.{lineCount, layoutVerdict}
+use Rattle.image.specs.Contents.{lineCount}
+use Rattle.image.specs.Layout.{layoutVerdict}
 use Rattle.image.specs.Sections.{Section, sections, imageOf, Fit}
 use Rattle.image.specs.Find.{bodyOf, found, offsetFrom, foundOffset}
 use Rattle.image.specs.RoundTrip.{image-good, sections-of-image}

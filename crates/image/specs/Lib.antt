@@ -1,10 +1,14 @@
+pub mod Contents
 pub mod Layout
 pub mod Sections
 pub mod Find
+pub mod Merged
 pub mod LineLaws
+pub mod ContentsLaws
 pub mod LayoutLaws
 pub mod RoundTrip
 pub mod Back
 pub mod FindLaws
 pub mod OrderLaws
+pub mod MergedLaws
 pub mod Examples

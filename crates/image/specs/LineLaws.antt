@@ -8,7 +8,7 @@ use Rattle.laws.specs.Bytes.{Bytes}
 use Rattle.laws.specs.Lists.{drop-two}
 use Rattle.numbers.specs.Fields.{littleEndian, numberAt}
 use Rattle.numbers.specs.FieldsLaws.{number-from, byte-at, two-bytes-at}
-use Rattle.image.specs.Layout.{linePlace, kindAt, zeroAt, offsetAt, lengthAt, sumAt}
+use Rattle.image.specs.Contents.{linePlace, kindAt, zeroAt, offsetAt, lengthAt, sumAt}
 use Rattle.image.specs.Sections.{twoBytes, contentsLine}
 
 -- ---- the fields of the bytes

@@ -6,12 +6,15 @@ use Prim.Native.Nat.{ℕ, zero, suc, _+_, _≤_, _<_}
 use native.Mathlib.Nat.{le-refl}
 use native.Mathlib.Omega.{arith}
 use borrow.Author.Tests.{eq-eqb, ne-eqb}
+use lib.ListN.{length}
 use Rattle.laws.specs.Cases.{split}
 use Rattle.refusals.specs.declared.Verdict.the-variants.{Accepted}
-use Rattle.image.specs.Layout.{lineCount, linePlace, kindAt, lengthAt, linesVerdict, layoutVerdict}
+use Rattle.image.specs.Contents.{lineCount, linePlace, kindAt, lengthAt, linesVerdict}
+use Rattle.image.specs.Layout.{layoutVerdict}
 use Rattle.image.specs.Sections.{Section, sectionsFrom, sections, Rising}
 use Rattle.image.specs.Find.{bodyOf}
-use Rattle.image.specs.LayoutLaws.{line-passed, layout-passed}
+use Rattle.image.specs.ContentsLaws.{line-passed}
+use Rattle.image.specs.LayoutLaws.{layout-passed}
 
 -- kinds strictly rise above `previous`
 abbrev pub Ascending : (previous : ℕ) → List Section → Type 0
@@ -22,16 +25,18 @@ pub rising-ascends : (previous : ℕ) (ss : List Section) → Rising previous ss
 rising-ascends previous [] rising = tt
 rising-ascends previous (s ∷ ss) rising = (rising .0, rising-ascends (s .kind) ss (rising .2))
 
-lines-ascend : (image : List ℕ) (left i previous offset : ℕ) → linesVerdict image left i previous offset ≡ Accepted → Ascending previous (sectionsFrom image left i)
+lines-ascend : (size : ℕ) (image : List ℕ) (left i previous offset : ℕ) → linesVerdict size image left i previous offset ≡ Accepted
+    → Ascending previous (sectionsFrom image left i)
 unfolding sectionsFrom
-lines-ascend image zero i previous offset e = tt
-lines-ascend image (suc left) i previous offset e =
-    let p = line-passed image left i previous offset e in
-    (p .right .rises, lines-ascend image left (i + 1) (kindAt image i) (offset + lengthAt image i) (p .others))
+lines-ascend size image zero i previous offset e = tt
+lines-ascend size image (suc left) i previous offset e =
+    let p = line-passed size image left i previous offset e in
+    (p .right .rises, lines-ascend size image left (i + 1) (kindAt image i) (offset + lengthAt image i) (p .others))
 
 pub sections-ascend : (image : List ℕ) → layoutVerdict image ≡ Accepted → Ascending 0 (sections image)
 unfolding sections
-sections-ascend image good = lines-ascend image (lineCount image) 0 0 (linePlace (lineCount image)) (layout-passed image good .lines)
+sections-ascend image good =
+    lines-ascend (length image) image (lineCount image) 0 0 (linePlace (lineCount image)) (layout-passed image good .contents .lines)
 
 pub none-below : (previous kind : ℕ) (ss : List Section) → Ascending previous ss → kind ≤ previous → bodyOf kind ss ≡ none
 unfolding bodyOf

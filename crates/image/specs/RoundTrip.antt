@@ -13,10 +13,12 @@ use Rattle.laws.specs.Sums.{total}
 use Rattle.numbers.specs.Fields.{littleEndian, numberAt}
 use Rattle.refusals.specs.declared.Verdict.the-variants.{Accepted}
 use Rattle.refusals.specs.VerdictLaws.{ask-passes}
-use Rattle.image.specs.Layout.{lineCount, linePlace, kindAt, bodyAt, linesVerdict, sumsVerdict, layoutVerdict}
+use Rattle.image.specs.Contents.{lineCount, linePlace, kindAt, linesVerdict}
+use Rattle.image.specs.Layout.{bodyAt, sumsVerdict, layoutVerdict}
 use Rattle.image.specs.Sections.{Section, sectionsFrom, sections, twoBytes, contentsFrom, bodiesOf, imageOf, Rising, Fit}
 use Rattle.image.specs.LineLaws.{Says, line-says}
-use Rattle.image.specs.LayoutLaws.{right-passes, layout-passes}
+use Rattle.image.specs.ContentsLaws.{right-passes}
+use Rattle.image.specs.LayoutLaws.{layout-passes}
 
 -- the image holds the sections ss: their lines from line i on, and their bodies from `offset` to its end
 pub record Holds (image : List ℕ) (i offset : ℕ) (ss : List Section) : Type 0 where
@@ -62,7 +64,7 @@ sections-held image i offset (s ∷ ss) h =
     )
 
 lines-held : (image : List ℕ) (i previous offset : ℕ) (ss : List Section) → Rising previous ss → Holds image i offset ss
-    → linesVerdict image (length ss) i previous offset ≡ Accepted
+    → linesVerdict (length image) image (length ss) i previous offset ≡ Accepted
 unfolding linesVerdict bodiesOf
 lines-held image i previous offset [] r h =
     let long = ap length (h .bodies) in
@@ -128,9 +130,12 @@ module _ (ss : List Section) where
       let count = image-count in
       layout-passes (imageOf ss)
       (record {
-        started = record { enough = omega arith; most = omega (arith, fit .room); marked = image-marked };
-        counted = record { some = omega (arith, fit .some); few = omega (arith, fit .few); room = omega arith };
-        lines = rw image-count (lines-held (imageOf ss) 0 0 (linePlace (length ss)) ss (fit .rising) image-holds);
+        contents =
+            record {
+              started = record { enough = omega arith; most = omega (arith, fit .room); marked = image-marked };
+              counted = record { some = omega (arith, fit .some); few = omega (arith, fit .few); room = omega arith };
+              lines = rw image-count (lines-held (imageOf ss) 0 0 (linePlace (length ss)) ss (fit .rising) image-holds);
+            };
         sums = rw image-count (sums-held (imageOf ss) 0 (linePlace (length ss)) ss image-holds);
       })
 

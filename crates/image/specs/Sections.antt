@@ -3,7 +3,8 @@ use mathlib.Core.List.{List, [], _∷_, _++_}
 use Prim.Native.Nat.{ℕ, zero, suc, _+_, _/_, _%_, _≤_, _<_}
 use lib.ListN.{length}
 use Rattle.laws.specs.Sums.{total}
-use Rattle.image.specs.Layout.{lineCount, linePlace, kindAt, bodyAt}
+use Rattle.image.specs.Contents.{lineCount, linePlace, kindAt}
+use Rattle.image.specs.Layout.{bodyAt}
 
 pub record Section : Type 0 where
   pub kind : ℕ

@@ -1,25 +1,40 @@
 // The layout of an image judged: refusals 5 to 8, each check finished for the whole image before the next.
 ghost use mathlib.Core.Path.{_≡_};
-ghost use Rattle.image.specs.Layout.{layoutVerdict};
+ghost use lib.ListN.{length};
+ghost use Rattle.image.specs.Contents.{contentsVerdict};
+ghost use Rattle.image.specs.Layout.{allSums, layoutVerdict};
+use numbers::slices;
 use refusals::Verdict;
+use refusals::refused;
 
-// The four checks.
-mod checks;
+// Refusal 8. The contents are good, so every line is there, and every body right after the one before: neither is tested for.
+fn sums(image: &[u8]) -> Verdict
+    requires { ⌜ contentsVerdict (length (now image)) (now image) ≡ Verdict.Accepted ⌝ }
+    ensures { λ r. ⌜ r ≡ allSums (now (image .entry)) ⌝ }
+{
+    let count = contents::line_count(image);
+    let mut i = 0;
+    let mut offset = 2 + 8 * count;
+    while i < count {
+        let place = 2 + 8 * i;
+        let line = contents::line_in(&image[place..place + 8]);
+        let end = offset + line.length as usize;
+        let body = &image[offset..end];
+        if slices::byte_sum(body) != line.sum {
+            return refused(8, i as u64);
+        }
+        offset = end;
+        i += 1;
+    }
+    Verdict::Accepted
+}
 
 pub fn layout(image: &[u8]) -> Verdict
     ensures { λ r. ⌜ r ≡ layoutVerdict (now (image .entry)) ⌝ }
 {
-    let start = checks::start(image);
-    let Verdict::Accepted = start else {
-        return start;
+    let judged = contents::contents_verdict(image, image.len());
+    let Verdict::Accepted = judged else {
+        return judged;
     };
-    let count = checks::count(image);
-    let Verdict::Accepted = count else {
-        return count;
-    };
-    let lines = checks::lines(image);
-    let Verdict::Accepted = lines else {
-        return lines;
-    };
-    checks::sums(image)
+    sums(image)
 }

@@ -1,14 +1,14 @@
--- Laws of numbers among bytes: a number of two halves, a byte, nothing past the end, two numbers side by side, a number of its own bytes, a bound, a sign.
+-- Laws of numbers among bytes: a number of two halves, a byte, nothing past the end, a number of its own bytes, a bound, a sign.
 use mathlib.Core.Path.{_≡_, refl, sym, _∙_}
 use mathlib.Core.List.{List, [], _∷_}
-use Prim.Native.Nat.{ℕ, zero, suc, _+_, _-_, _*_, _/_, _%_, _^_, _≤_, _<_}
+use Prim.Native.Nat.{ℕ, zero, suc, _+_, _-_, _*_, _^_, _≤_, _<_}
 use native.Mathlib.Nat.{mul-assoc, mul-comm, one-le-pow, pow-suc, zero-add}
 use native.Mathlib.Omega.{arith}
 use borrow.Author.Tests.{lt-ltb, le-ltb}
 use lib.IntN.{ℤ, negsuc, _-ℤ_}
 use lib.Signed.{mag}
 use lib.ListN.{length, take, drop, getD, drop-of-length-le, List·getD-eq-default}
-use lib.Seq.{drop-cons, drop-drop, take-nil}
+use lib.Seq.{drop-cons, drop-drop, take-nil, take-take}
 use mir.Syntax.{Width, w8, w16, w32, w64, w128}
 use mir.Val.{SFits, bits, hbits, toZ, ofZ}
 use mir.Facts.{toZ-pos, toZ-ofZ}
@@ -57,6 +57,17 @@ pub number-from : (w : ℕ) (l : List ℕ) (from place : ℕ) → numberAt w (dr
 unfolding numberAt
 number-from w l from place = rw (drop-drop place from l)
 
+-- among the first n bytes alone
+part-within : (w place n : ℕ) (l : List ℕ) → place + w ≤ n → take w (drop place (take n l)) ≡ take w (drop place l)
+part-within w zero n l h = take-take w n l (omega arith)
+part-within w (suc place) zero l h = absurd (omega arith)
+part-within w (suc place) (suc n) [] h = refl
+part-within w (suc place) (suc n) (b ∷ l) h = part-within w place n l (omega arith)
+
+pub number-within : (w : ℕ) (l : List ℕ) (place n : ℕ) → place + w ≤ n → numberAt w (take n l) place ≡ numberAt w l place
+unfolding numberAt
+number-within w l place n h = rw (part-within w place n l h)
+
 -- one byte and two, wherever they stand
 pub byte-at : (l : List ℕ) (place : ℕ) → numberAt 1 l place ≡ getD l place 0
 byte-at l place =
@@ -66,16 +77,6 @@ byte-at l place =
 
 pub two-bytes-at : (l : List ℕ) (place : ℕ) → numberAt 2 l place ≡ getD l place 0 + 256 * getD l (place + 1) 0
 two-bytes-at l place = sym (number-of-halves 1 1 l place (sym (byte-at l place)) (sym (byte-at l (place + 1))))
-
--- four bytes as two numbers side by side
-pub sides : (l : List ℕ) (place : ℕ) {a b c d : ℕ} → a ≡ numberAt 1 l place → b ≡ numberAt 1 l (place + 1) → c ≡ numberAt 1 l (place + 2) → d ≡ numberAt 1 l (place + 3)
-    → a < 256 → b < 256 → c < 256 → d < 256
-    → ((a + 256 * b + 65536 * c + 16777216 * d) % 65536 ≡ numberAt 2 l place) × ((a + 256 * b + 65536 * c + 16777216 * d) / 65536 ≡ numberAt 2 l (place + 2))
-sides l place e f g h p q s t =
-    let next : place + 2 + 1 ≡ place + 3 = omega arith in
-    let low = number-of-halves 1 1 l place e f in
-    let high = number-of-halves 1 1 l (place + 2) g (h ∙ sym (rw next)) in
-    (omega arith, omega arith)
 
 -- w bytes one by one, from the i-th after a place on, and from the place itself on; 0 past the end
 abbrev bytesFrom : (w : ℕ) → List ℕ → (place i : ℕ) → List ℕ
@@ -103,21 +104,11 @@ unfolding numberAt littleEndian
 spelled-alike zero l place = refl
 spelled-alike (suc w) l place = rw (spelled-from w l place 1) (by-low-byte w l place)
 
+pub number-of-bytes : (w : ℕ) (l : List ℕ) (place : ℕ) {r : ℕ} → r ≡ numberAt w (bytesAt w l place) 0 → r ≡ numberAt w l place
+number-of-bytes w l place e = rw (spelled-alike w l place) at e
+
 pub signed-of-bytes : (w : ℕ) (l : List ℕ) (place : ℕ) {r : ℤ} → r ≡ signedAt w (bytesAt w l place) 0 → r ≡ signedAt w l place
 signed-of-bytes w l place e = rw (spelled-alike w l place) at e
-
--- so of two numbers side by side
-pub sides-of-bytes : (l : List ℕ) (place r : ℕ) → (r % 65536 ≡ numberAt 2 (bytesAt 4 l place) 0) × (r / 65536 ≡ numberAt 2 (bytesAt 4 l place) 2)
-    → (r % 65536 ≡ numberAt 2 l place) × (r / 65536 ≡ numberAt 2 l (place + 2))
-sides-of-bytes l place r e =
-    let next : place + 2 + 1 ≡ place + 3 = omega arith in (
-      e .0 ∙ two-bytes-at (bytesAt 4 l place) 0 ∙ sym (two-bytes-at l place),
-      e .1 ∙ two-bytes-at (bytesAt 4 l place) 2 ∙ sym (two-bytes-at l (place + 2) ∙ rw next),
-    )
-
--- the second of two numbers side by side, by its own place
-pub side-after : (l : List ℕ) (place own r : ℕ) → (r % 65536 ≡ numberAt 2 l place) × (r / 65536 ≡ numberAt 2 l (place + 2)) → place + 2 ≡ own → r / 65536 ≡ numberAt 2 l own
-side-after l place own r e next = rw (← next) (e .1)
 
 spelled-small : (w : ℕ) (l : List ℕ) → Bytes l → littleEndian (take w l) < 256 ^ w
 unfolding littleEndian

@@ -1,5 +1,5 @@
 ghost use mathlib.Core.Path.{_≡_};
-ghost use Prim.Native.Nat.{_+_, _/_, _%_, _^_, _≤_, _<_};
+ghost use Prim.Native.Nat.{_+_, _^_, _≤_, _<_};
 ghost use lib.ListN.{length};
 ghost use Rattle.numbers.specs.Fields.{numberAt, twosComplement, signedAt};
 
@@ -71,16 +71,10 @@ pub fn signed8(bytes: &[u8], place: usize) -> i64
 }
 
 // Of bytes by value: a caller that knows that they are all there needs no test.
-// Two numbers of two bytes side by side: the first, and 65,536 times the second. It is one sum of all four bytes, so that the
-// compiler makes one load of it before a caller takes it apart.
-pub fn side_by_side(bytes: [u8; 4]) -> u32
-    ensures { λ r. ⌜ (r % 65536 ≡ numberAt 2 bytes 0) × (r / 65536 ≡ numberAt 2 bytes 2) ⌝ }
+pub fn number_of_8(bytes: [u8; 8]) -> u64
+    ensures { λ r. ⌜ r ≡ numberAt 8 bytes 0 ⌝ }
 {
-    let low = whole1(&bytes, 0) as u32;
-    let high = whole1(&bytes, 1) as u32;
-    let second_low = whole1(&bytes, 2) as u32;
-    let second_high = whole1(&bytes, 3) as u32;
-    low + 256 * high + 65536 * second_low + 16777216 * second_high
+    whole8(&bytes, 0)
 }
 
 pub fn signed_of_8(bytes: [u8; 8]) -> i64

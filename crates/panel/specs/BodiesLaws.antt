@@ -11,7 +11,8 @@ use Rattle.laws.specs.Cases.{split, decide, never}
 use Rattle.refusals.specs.declared.Verdict.{Verdict}
 use Rattle.refusals.specs.declared.Verdict.the-variants.{Accepted, Refused}
 use Rattle.refusals.specs.Refusals.{andThen}
-use Rattle.image.specs.Layout.{kindAt, bodyAt}
+use Rattle.image.specs.Contents.{kindAt}
+use Rattle.image.specs.Layout.{bodyAt}
 use Rattle.image.specs.Sections.{Section}
 use Rattle.image.specs.Find.{bodyOf}
 use Rattle.image.specs.OrderLaws.{Ascending, none-below}

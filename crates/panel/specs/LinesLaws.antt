@@ -14,11 +14,14 @@ use Rattle.laws.specs.Loops.{one-left, none-left}
 use Rattle.refusals.specs.declared.Verdict.{Verdict}
 use Rattle.refusals.specs.declared.Verdict.the-variants.{Accepted}
 use Rattle.refusals.specs.VerdictLaws.{asked, first-passed, next-passed}
-use Rattle.image.specs.Layout.{lineCount, linePlace, kindAt, offsetAt, lengthAt, bodyAt, layoutVerdict}
+use Rattle.image.specs.Contents.{lineCount, linePlace, kindAt, offsetAt, lengthAt}
+use Rattle.image.specs.Layout.{bodyAt, layoutVerdict}
 use Rattle.image.specs.LayoutLaws.{layout-passed, body-within}
 use Rattle.image.specs.Sections.{sectionsFrom, sections}
 use Rattle.image.specs.Find.{bodyOf, isThere}
 use Rattle.image.specs.OrderLaws.{Ascending, sections-ascend, none-below}
+use Rattle.contents.specs.declared.Line.{Line}
+use Rattle.contents.specs.Lines.{lineAt}
 use Rattle.panel.specs.Verdict.{presentVerdict, missingVerdict, sectionsVerdict, verdictOf}
 
 -- ---- what is there
@@ -28,16 +31,16 @@ pub record HasLine (image : List ℕ) (line : ℕ) : Type 0 where
   pub inside : offsetAt image line + lengthAt image line ≤ length image
 
 module _ (image : List ℕ) (good : layoutVerdict image ≡ Accepted) where
-  pub has-count : 1 < length image
-  has-count = omega (arith, layout-passed image good .started .enough)
-
   pub has-line : (count line : ℕ) → count ≡ lineCount image → line < count → HasLine image line
   has-line count line c h =
-      record { room = omega (arith, layout-passed image good .counted .room); inside = body-within image good line (omega arith) }
+      record { room = omega (arith, layout-passed image good .contents .counted .room); inside = body-within image good line (omega arith) }
 
-pub line-body : (image : List ℕ) (line offset size : ℕ) → offset ≡ offsetAt image line → size ≡ lengthAt image line
-    → take (offset + size - offset) (drop offset image) ≡ bodyAt image line
-line-body image line offset size o l = let e : offset + size - offset ≡ size = omega arith in rw (e, o, l)
+module _ (image : List ℕ) (line : ℕ) (said : Line) (e : said ≡ lineAt image line) where
+  pub body-inside : HasLine image line → said .offset + said .length ≤ length image
+  body-inside h = rw e (h .inside)
+
+  pub line-body : take (said .offset + said .length - said .offset) (drop (said .offset) image) ≡ bodyAt image line
+  line-body = let long : said .offset + said .length - said .offset ≡ said .length = omega arith in rw (long, e)
 
 -- ---- the first kinds
 
@@ -96,9 +99,9 @@ module _ (line : ℕ) (image : List ℕ) (l : Leads image line) where
   pub no-next : (count : ℕ) → count ≡ lineCount image → count ≤ line → false ≡ isThere (bodyOf (line + 1) (sections image))
   no-next count c end = rw (next-past (omega arith))
 
-  pub next-here : (count kind : ℕ) → count ≡ lineCount image → line < count → kind ≡ kindAt image line
-      → eqb (line + 1) kind ≡ isThere (bodyOf (line + 1) (sections image))
-  next-here count kind c more k = rw (next-body (omega arith), k) (decide (eqb (line + 1) (kindAt image line)) (λ e. rw e) (λ e. rw e))
+  pub next-here : (count : ℕ) (said : Line) → count ≡ lineCount image → line < count → said ≡ lineAt image line
+      → eqb (line + 1) (said .kind) ≡ isThere (bodyOf (line + 1) (sections image))
+  next-here count said c more k = rw (next-body (omega arith), k) (decide (eqb (line + 1) (kindAt image line)) (λ e. rw e) (λ e. rw e))
 
   module _ (b : Bool) (e : b ≡ isThere (bodyOf (line + 1) (sections image))) (t : not b ≡ false) where
     pub next-leads : Leads image (line + 1)

@@ -12,8 +12,8 @@ use Rattle.refusals.specs.declared.Refusal.{Refusal}
 use Rattle.refusals.specs.declared.Verdict.{Verdict}
 use Rattle.refusals.specs.declared.Verdict.the-variants.{Accepted, Refused}
 use Rattle.refusals.specs.Refusals.{refusal, andThen}
-use Rattle.image.specs.Layout.{lineCount, kindAt, bodyAt, layoutVerdict}
-use Rattle.image.specs.LayoutLaws.{layout-passed}
+use Rattle.image.specs.Contents.{lineCount, kindAt}
+use Rattle.image.specs.Layout.{bodyAt, layoutVerdict}
 use Rattle.image.specs.Sections.{Section, sectionsFrom, sections}
 use Rattle.image.specs.Find.{bodyOf, isThere}
 use Rattle.image.specs.OrderLaws.{sections-ascend}
@@ -21,6 +21,8 @@ use Rattle.bodies.specs.Identity.{identityVerdict}
 use Rattle.sets.specs.Set.{setVerdict}
 use Rattle.bodies.specs.Trim.{trimVerdict}
 use Rattle.bodies.specs.Note.{noteVerdict}
+use Rattle.contents.specs.declared.Line.{Line}
+use Rattle.contents.specs.Lines.{lineAt}
 use Rattle.panel.specs.Levels.{isLevel, knows, mayPass}
 use Rattle.panel.specs.Verdict.{levelVerdict, unknownVerdict, presentVerdict, kindVerdict, bodiesVerdict}
 use Rattle.panel.specs.BodiesLaws.{lineVerdict, sectionBySection, not-judged, bodies-in-order}
@@ -38,27 +40,26 @@ layout-good image v e a = sym e ∙ a
 
 pub record Passing (verdict : List Section → Verdict) (image : List ℕ) (count i : ℕ) : Type 0 where
   pub rest : verdict (sectionsFrom image (count - i) i) ≡ verdict (sections image)
-  pub few : count ≤ 16
 
-pub passing-first : (verdict : List Section → Verdict) (image : List ℕ) (count : ℕ) → layoutVerdict image ≡ Accepted → count ≡ lineCount image → Passing verdict image count 0
+pub passing-first : (verdict : List Section → Verdict) (image : List ℕ) (count : ℕ) → count ≡ lineCount image → Passing verdict image count 0
 unfolding sections
-passing-first verdict image count good c = record { rest = rw (sub-zero count, c); few = omega (arith, layout-passed image good .counted .few) }
+passing-first verdict image count c = record { rest = rw (sub-zero count, c) }
 
 -- ---- 9
 
 module _ (image : List ℕ) (level count i : ℕ) (p : Passing (unknownVerdict level) image count i) where
-  module _ (kind : ℕ) (more : i < count) (k : kind ≡ kindAt image i) (b : Bool) (e : b ≡ mayPass level kind) where
+  module _ (line : Line) (more : i < count) (l : line ≡ lineAt image i) (b : Bool) (e : b ≡ mayPass level (line .kind)) where
     pub passing-more : not b ≡ false → Passing (unknownVerdict level) image count (i + 1)
     unfolding unknownVerdict sectionsFrom
     passing-more t =
-        let passed : mayPass level (kindAt image i) ≡ true = rw k at (sym e ∙ not-false b t) in
-        record { rest = rw (one-left count i more, passed) at (p .rest); few = p .few }
+        let passed : mayPass level (kindAt image i) ≡ true = rw l at (sym e ∙ not-false b t) in
+        record { rest = rw (one-left count i more, passed) at (p .rest) }
 
-    pub unknown-here : not b ≡ true → Refused (refusal 9 kind) ≡ unknownVerdict level (sections image)
+    pub unknown-here : not b ≡ true → Refused (refusal 9 (line .kind)) ≡ unknownVerdict level (sections image)
     unfolding unknownVerdict sectionsFrom
     unknown-here t =
-        let stopped : mayPass level (kindAt image i) ≡ false = rw k at (sym e ∙ not-true b t) in
-        rw k (rw (one-left count i more, stopped) at (p .rest))
+        let stopped : mayPass level (kindAt image i) ≡ false = rw l at (sym e ∙ not-true b t) in
+        rw l (rw (one-left count i more, stopped) at (p .rest))
 
   pub none-unknown : count ≤ i → Accepted ≡ unknownVerdict level (sections image)
   unfolding unknownVerdict sectionsFrom
@@ -106,18 +107,21 @@ module _ (kind : ℕ) (body : List ℕ) where
   pub as-higher : 4 ≤ kind → (kind ≡ 4 → ⊥) → (kind ≡ 129 → ⊥) → Accepted ≡ kindVerdict kind body
   as-higher h four note = sym (not-judged kind body ((λ e. omega arith), ((λ e. omega arith), ((λ e. omega arith), (four, (note, tt))))))
 
-module _ (image : List ℕ) (level i kind : ℕ) (k : kind ≡ kindAt image i) (b : Bool) (e : b ≡ knows level kind) where
-  pub kind-not-known : not b ≡ true → Accepted ≡ lineVerdict level image i
-  kind-not-known t = rw (← k, ← e, not-true b t)
+module _ (image : List ℕ) (level i : ℕ) (line : Line) (l : line ≡ lineAt image i) (b : Bool) (e : b ≡ knows level (line .kind)) where
+  known : knows level (kindAt image i) ≡ b
+  known = sym (rw l at e)
 
-  pub body-judged : not b ≡ false → (body : List ℕ) (r : Verdict) → body ≡ bodyAt image i → r ≡ kindVerdict kind body → r ≡ lineVerdict level image i
-  body-judged t body r h v = rw (← k, ← e, not-false b t, ← h) v
+  pub kind-not-known : not b ≡ true → Accepted ≡ lineVerdict level image i
+  kind-not-known t = rw (known, not-true b t)
+
+  pub body-judged : not b ≡ false → (body : List ℕ) (r : Verdict) → body ≡ bodyAt image i → r ≡ kindVerdict (line .kind) body → r ≡ lineVerdict level image i
+  body-judged t body r h v = rw (known, not-false b t, ← h) (rw l at v)
 
 module _ (image : List ℕ) (level count i : ℕ) (p : Passing (sectionBySection level) image count i) where
   module _ (more : i < count) (v : Verdict) (e : v ≡ lineVerdict level image i) where
     pub bodies-more : v ≡ Accepted → Passing (sectionBySection level) image count (i + 1)
     unfolding sectionBySection sectionsFrom
-    bodies-more a = record { rest = rw (one-left count i more, ← e, a) at (p .rest); few = p .few }
+    bodies-more a = record { rest = rw (one-left count i more, ← e, a) at (p .rest) }
 
     pub body-refused : layoutVerdict image ≡ Accepted → (r : Refusal) → v ≡ Refused r → v ≡ bodiesVerdict level (sections image)
     unfolding sectionBySection sectionsFrom

@@ -24,10 +24,11 @@ fn unknown_verdict(image: &[u8], level: u32) -> Verdict
     requires { ⌜ layoutVerdict (now image) ≡ Verdict.Accepted ⌝ }
     ensures { λ r. ⌜ r ≡ unknownVerdict level (sections (now (image .entry))) ⌝ }
 {
-    let count = lines::count(image);
+    let count = contents::line_count(image);
     let mut i: usize = 0;
     while i < count {
-        let kind = lines::kind(image, i);
+        let line = lines::stated(image, i);
+        let kind = line.kind as u32;
         if !levels::may_pass(level, kind) {
             return refused(9, kind as u64);
         }
@@ -71,7 +72,8 @@ fn line_verdict(image: &[u8], level: u32, line: usize) -> Verdict
     requires { ⌜ HasLine (now image) line ⌝ }
     ensures { λ r. ⌜ r ≡ lineVerdict level (now (image .entry)) line ⌝ }
 {
-    let kind = lines::kind(image, line);
+    let said = lines::stated(image, line);
+    let kind = said.kind as u32;
     if !levels::knows(level, kind) {
         return Verdict::Accepted;
     }
@@ -83,7 +85,7 @@ fn bodies_verdict(image: &[u8], level: u32) -> Verdict
     requires { ⌜ layoutVerdict (now image) ≡ Verdict.Accepted ⌝ }
     ensures { λ r. ⌜ r ≡ bodiesVerdict level (sections (now (image .entry))) ⌝ }
 {
-    let count = lines::count(image);
+    let count = contents::line_count(image);
     let mut line = 0;
     while line < count {
         let judged = line_verdict(image, level, line);

@@ -29,8 +29,8 @@ use Rattle.agreement.specs.KindsAgree.{found-is-had, had-is-found, none-had}
 use Rattle.agreement.specs.LayoutAgrees.{layout-accepted-exactly}
 use Rattle.agreement.specs.LaidAnew.{laid-once}
 use Rattle.agreement.specs.VerdictAgrees.{verdict-accepted-exactly, accepted-readable}
-use Rattle.promises.specs.Merged.{merged, holds, EachKind, EachOnce as EachKindOnce, IsKind}
-use Rattle.promises.specs.MergedLaws.{body-of-merged, merged-fit}
+use Rattle.image.specs.Merged.{merged, holds, EachKind, EachOnce as EachKindOnce, IsKind}
+use Rattle.image.specs.MergedLaws.{body-of-merged, merged-fit}
 use Rattle.promises.specs.Further.{Among, HasSection, EachOnce, Further, LaidAnew}
 
 -- ---- a section among others, and its body

@@ -37,7 +37,7 @@ use Rattle.panel.specs.Load.{loadText}
 use Rattle.hexwrite.proofs as hexwrite
 use Rattle.agreement.specs.KindsAgree.{none-found, found-is-had}
 use Rattle.agreement.specs.VerdictAgrees.{verdict-accepted-exactly, accepted-readable}
-use Rattle.promises.specs.Merged.{merged, IsKind}
+use Rattle.image.specs.Merged.{merged, IsKind}
 use Rattle.promises.specs.Further.{HasSection, EachOnce, Further, LaidAnew, AllHigh, LowestLow}
 use Rattle.promises.specs.AnewBuilt.{anew-laid, ascending-once}
 use Rattle.promises.specs.Demand1.{no-reading-after, no-reading-after-load}

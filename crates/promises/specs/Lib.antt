@@ -1,14 +1,12 @@
 pub mod Answers
 pub mod Further
 pub mod Lower
-pub mod Merged
 pub mod Demand1
 pub mod Demand2
 pub mod Demand3
 pub mod Whole
 pub mod Starred
 pub mod WorkedReadings
-pub mod MergedLaws
 pub mod AnswersLaws
 pub mod ZerosLaws
 pub mod AnewLaws

@@ -10,7 +10,8 @@ use Rattle.whole.specs.Rounded.{rounded}
 use Rattle.refusals.specs.declared.Verdict.the-variants.{Accepted, Refused as NotAccepted}
 use Rattle.refusals.specs.Refusals.{refusal}
 use Rattle.refusals.specs.FieldsVerdict.{fieldsVerdict, fieldsFrom}
-use Rattle.image.specs.Layout.{startVerdict, countVerdict, linesVerdict, sumsVerdict, layoutVerdict}
+use Rattle.image.specs.Contents.{startVerdict, countVerdict, linesVerdict, contentsVerdict}
+use Rattle.image.specs.Layout.{sumsVerdict, layoutVerdict}
 use Rattle.image.specs.Sections.{sectionsFrom, sections}
 use Rattle.image.specs.Find.{bodyOf}
 use Rattle.bodies.specs.Identity.{identityOf, daysIn, identityFields}
@@ -32,7 +33,7 @@ use Rattle.paper.specs.WorkedImage.{identityBytes, pressureBytes, temperatureBy
 -- where a proof unfolds this, it unfolds all that a reading is worked out by
 workedOut : (level : ℕ) → (image : List ℕ) → Counts → Answer
 unfolding total littleEndian numberAt twosComplement rounded fieldsVerdict fieldsFrom
-    startVerdict countVerdict linesVerdict sumsVerdict layoutVerdict sectionsFrom sections bodyOf
+    startVerdict countVerdict linesVerdict contentsVerdict sumsVerdict layoutVerdict sectionsFrom sections bodyOf
     daysIn identityOf identityFields setOf setFields rowFrom rowsFrom trimOf trimFields noteFields
     within hertz frequencyOf scaledOf prescaledOf stepOf rowSum gridSum setResult outside markOf trimmedBy shownBy measuredOf
     knows unknownVerdict missingVerdict kindVerdict bodyVerdict bodiesVerdict sectionsVerdict verdictOf sectionsReading readingOf

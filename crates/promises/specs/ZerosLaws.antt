@@ -4,7 +4,7 @@ use mathlib.Core.List.{List, [], _∷_}
 use mathlib.Core.Path.{_≡_, refl, _∙_}
 use Prim.Native.Nat.{ℕ, zero, suc, _+_}
 use native.Mathlib.Omega.{arith}
-use lib.Dec.{leb}
+use lib.Dec.{leb, eqb}
 use lib.ListN.{length, take, drop, getD, replicate}
 use lib.Seq.{getD-drop}
 use Rattle.laws.specs.Cases.{decide}
@@ -14,7 +14,9 @@ use Rattle.refusals.specs.declared.Verdict.the-variants.{Refused as NotAccepted
 use Rattle.refusals.specs.declared.Refusal.{Refusal}
 use Rattle.refusals.specs.declared.Filled.the-variants.{Refused as NotFilled}
 use Rattle.refusals.specs.Refusals.{Outcome, result, refused, answerTo, heldAfter, refusal, Fills}
-use Rattle.image.specs.Layout.{startVerdict, layoutVerdict}
+use Rattle.refusals.specs.VerdictLaws.{both-asked}
+use Rattle.image.specs.Contents.{startVerdict, contentsVerdict}
+use Rattle.image.specs.Layout.{layoutVerdict}
 use Rattle.reading.specs.declared.Counts.{Counts}
 use Rattle.reading.specs.declared.Answer.the-variants.{Refused}
 use Rattle.panel.specs.Levels.{isLevel}
@@ -39,8 +41,10 @@ part-starts size start n =
 
 module _ (image : List ℕ) (e : numberAt 1 image 0 ≡ 0) where
   layout-refused : layoutVerdict image ≡ NotAccepted (refusal 5 0)
-  unfolding layoutVerdict startVerdict
-  layout-refused = rw (e, and-false (leb 2 (length image) && leb (length image) 4096))
+  unfolding layoutVerdict contentsVerdict startVerdict
+  layout-refused =
+      let sized = leb 2 (length image) && leb (length image) 4096 in
+      rw (both-asked sized (eqb (numberAt 1 image 0) 0x51) 5 0, e, and-false sized)
 
   pub zeros-refused : (level : ℕ) (counts : Counts) → readingOf level image counts ≡ Refused (cond (isLevel level) (refusal 5 0) (refusal 20 0))
   unfolding readingOf verdictOf

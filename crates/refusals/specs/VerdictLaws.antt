@@ -1,6 +1,6 @@
 -- Laws of checks in order: what passes, and what the first refusal stops.
 use mathlib.Core.Path.{_≡_, refl, ap}
-use mathlib.Core.Bool.{Bool, true, false}
+use mathlib.Core.Bool.{Bool, true, false, _&&_}
 use mathlib.Core.List.{List}
 use Prim.Native.Nat.{ℕ}
 use native.Mathlib.Omega.{arith}
@@ -26,6 +26,11 @@ asked false number detail e = never-both refl e
 pub ask-unpassed : (holds : Bool) (number detail : ℕ) → (ask holds number detail ≡ Accepted → ⊥) → ask holds number detail ≡ Refused (refusal number detail)
 ask-unpassed true number detail f = absurd (f refl)
 ask-unpassed false number detail f = refl
+
+-- two tests for one refusal
+pub both-asked : (a b : Bool) (number detail : ℕ) → andThen (ask a number detail) (ask b number detail) ≡ ask (a && b) number detail
+both-asked true b number detail = refl
+both-asked false b number detail = refl
 
 -- two checks, one after the other: how code that stops at the first refusal comes to both, and what an acceptance says of each
 pub stops-there : (first next : Verdict) {v : Verdict} (r : Refusal) → v ≡ first → v ≡ Refused r → v ≡ andThen first next

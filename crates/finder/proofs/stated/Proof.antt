@@ -12,44 +12,23 @@ Inv-loop image kind count i₀ i = Looking image kind count i
 abbrev μ-loop : tie.MeasureT-loop
 μ-loop image kind count i₀ i = count - i
 
-number1-requires : tie.Need-number1-requires Inv-loop μ-loop
-number1-requires c κs = search laws
-
-cast-count : tie.Need-cast-count Inv-loop μ-loop
-cast-count c = search laws
+line-count-requires : tie.Need-line-count-requires Inv-loop μ-loop
+line-count-requires c κs = search laws
 
 loop-holds : tie.Need-loop-holds Inv-loop μ-loop
 loop-holds c = search laws
 
-mul-place : tie.Need-mul-place Inv-loop μ-loop
-mul-place c = search laws
-
-add-place : tie.Need-add-place Inv-loop μ-loop
-add-place c = search laws
-
-number1-requires-2 : tie.Need-number1-requires-2 Inv-loop μ-loop
-number1-requires-2 c κs = search laws
+line-at-requires : tie.Need-line-at-requires Inv-loop μ-loop
+line-at-requires c κs = search laws
 
 cast-if1 : tie.Need-cast-if1 Inv-loop μ-loop
 cast-if1 c = search laws
 
-add-number2 : tie.Need-add-number2 Inv-loop μ-loop
-add-number2 c = search laws
+cast-t8 : tie.Need-cast-t8 Inv-loop μ-loop
+cast-t8 c = search laws
 
-number2-requires : tie.Need-number2-requires Inv-loop μ-loop
-number2-requires c κs = search laws
-
-cast-offset : tie.Need-cast-offset Inv-loop μ-loop
-cast-offset c = search laws
-
-add-number2-2 : tie.Need-add-number2-2 Inv-loop μ-loop
-add-number2-2 c = search laws
-
-number2-requires-2 : tie.Need-number2-requires-2 Inv-loop μ-loop
-number2-requires-2 c κs = search laws
-
-cast-length : tie.Need-cast-length Inv-loop μ-loop
-cast-length c = search laws
+cast-t9 : tie.Need-cast-t9 Inv-loop μ-loop
+cast-t9 c = search laws
 
 returns : tie.Need-returns Inv-loop μ-loop
 returns c = search laws
@@ -72,19 +51,12 @@ stated-spec =
     (tie.spec
     Inv-loop
     μ-loop
-    number1-requires
-    cast-count
+    line-count-requires
     loop-holds
-    mul-place
-    add-place
-    number1-requires-2
+    line-at-requires
     cast-if1
-    add-number2
-    number2-requires
-    cast-offset
-    add-number2-2
-    number2-requires-2
-    cast-length
+    cast-t8
+    cast-t9
     returns
     add-i
     loop-less

@@ -5,20 +5,20 @@ use Rattle.display.proofs.lines.put_accepted.Tie as tie
 
 ruleset laws = (needs, accepted-printed)
 
-find-requires : tie.Need-find-requires
-find-requires c κs = search laws
+body-of-requires : tie.Need-body-of-requires
+body-of-requires c κs = search laws
 
 read-identity-requires : tie.Need-read-identity-requires
 read-identity-requires c κs = search laws
 
-find-requires-2 : tie.Need-find-requires-2
-find-requires-2 c κs = search laws
+body-of-requires-2 : tie.Need-body-of-requires-2
+body-of-requires-2 c κs = search laws
 
 read-set-requires : tie.Need-read-set-requires
 read-set-requires c κs = search laws
 
-find-requires-3 : tie.Need-find-requires-3
-find-requires-3 c κs = search laws
+body-of-requires-3 : tie.Need-body-of-requires-3
+body-of-requires-3 c κs = search laws
 
 read-set-requires-2 : tie.Need-read-set-requires-2
 read-set-requires-2 c κs = search laws
@@ -39,11 +39,11 @@ pub put-accepted-spec : {M : Type 1} → statement M
 put-accepted-spec =
     tie.close
     (tie.spec
-    find-requires
+    body-of-requires
     read-identity-requires
-    find-requires-2
+    body-of-requires-2
     read-set-requires
-    find-requires-3
+    body-of-requires-3
     read-set-requires-2
     put-identity-requires
     put-sets-requires

@@ -1,5 +1,5 @@
 use borrow.Author.Needs.{needs}
-use Rattle.display.specs.PageLaws.{level-accepted, level-refused}
+use Rattle.display.specs.PageLaws.{verdict-laid, level-accepted, level-refused}
 use Rattle.display.proofs.lines.put_level.Statement.{statement}
 use Rattle.display.proofs.lines.put_level.Tie as tie
 
@@ -16,7 +16,7 @@ enum-told : tie.Need-enum-told
 enum-told c = search needs
 
 put-accepted-requires : tie.Need-put-accepted-requires
-put-accepted-requires c κs = search needs
+put-accepted-requires c κs = (search needs, search (needs, verdict-laid))
 
 enum-known-verdict : tie.Need-enum-known-verdict
 enum-known-verdict c = search needs

@@ -14,8 +14,8 @@ Inv-loop image level count line₀ line = Passing (sectionBySection level) image
 abbrev μ-loop : tie.MeasureT-loop
 μ-loop image level count line₀ line = count - line
 
-count-requires : tie.Need-count-requires Inv-loop μ-loop
-count-requires c κs = search laws
+line-count-requires : tie.Need-line-count-requires Inv-loop μ-loop
+line-count-requires c κs = search laws
 
 loop-holds : tie.Need-loop-holds Inv-loop μ-loop
 loop-holds c = search laws
@@ -50,7 +50,7 @@ bodies-verdict-spec =
     (tie.spec
     Inv-loop
     μ-loop
-    count-requires
+    line-count-requires
     loop-holds
     line-verdict-requires
     enum-told

@@ -3,8 +3,11 @@ use Rattle.panel.specs.VerdictLaws.{kind-not-known, body-judged}
 use Rattle.panel.proofs.verdicts.line_verdict.Statement.{statement}
 use Rattle.panel.proofs.verdicts.line_verdict.Tie as tie
 
-kind-requires : tie.Need-kind-requires
-kind-requires c κs = search needs
+stated-requires : tie.Need-stated-requires
+stated-requires c κs = search needs
+
+cast-kind : tie.Need-cast-kind
+cast-kind c = search needs
 
 knows-requires : tie.Need-knows-requires
 knows-requires c κs = search needs
@@ -24,4 +27,4 @@ returns-2 c = search (needs, body-judged)
 pub line-verdict-spec : {M : Type 1} → statement M
 line-verdict-spec =
     tie.close
-    (tie.spec kind-requires knows-requires returns body-requires kind-verdict-requires returns-2)
+    (tie.spec stated-requires cast-kind knows-requires returns body-requires kind-verdict-requires returns-2)

@@ -15,14 +15,17 @@ Inv-loop image level count i₀ i = Passing (unknownVerdict level) image count i
 abbrev μ-loop : tie.MeasureT-loop
 μ-loop image level count i₀ i = count - i
 
-count-requires : tie.Need-count-requires Inv-loop μ-loop
-count-requires c κs = search laws
+line-count-requires : tie.Need-line-count-requires Inv-loop μ-loop
+line-count-requires c κs = search laws
 
 loop-holds : tie.Need-loop-holds Inv-loop μ-loop
 loop-holds c = search laws
 
-kind-requires : tie.Need-kind-requires Inv-loop μ-loop
-kind-requires c κs = search laws
+stated-requires : tie.Need-stated-requires Inv-loop μ-loop
+stated-requires c κs = search laws
+
+cast-kind : tie.Need-cast-kind Inv-loop μ-loop
+cast-kind c = search laws
 
 may-pass-requires : tie.Need-may-pass-requires Inv-loop μ-loop
 may-pass-requires c κs = search laws
@@ -54,9 +57,10 @@ unknown-verdict-spec =
     (tie.spec
     Inv-loop
     μ-loop
-    count-requires
+    line-count-requires
     loop-holds
-    kind-requires
+    stated-requires
+    cast-kind
     may-pass-requires
     cast-refused
     refused-requires

@@ -1,0 +1,79 @@
+ghost use mathlib.Core.Bool.{_&&_};
+ghost use mathlib.Core.Path.{_≡_};
+ghost use lib.Dec.{ltb, eqb};
+ghost use Rattle.image.specs.Contents.{startVerdict, countVerdict, allLines};
+ghost use Rattle.contents.specs.Lines.{fitsAfter};
+use crate::Line;
+use crate::line_at;
+use crate::line_count;
+use numbers::fields;
+use refusals::Verdict;
+use refusals::refused;
+
+// Refusal 5.
+pub fn start(contents: &[u8], size: usize) -> Verdict
+    ensures { λ r. ⌜ r ≡ startVerdict size (now (contents .entry)) ⌝ }
+{
+    if size < 2 {
+        return refused(5, 0);
+    }
+    if 4096 < size {
+        return refused(5, 0);
+    }
+    if fields::number1(contents, 0) != 0x51 {
+        return refused(5, 0);
+    }
+    Verdict::Accepted
+}
+
+// Refusal 6.
+pub fn count(contents: &[u8], size: usize) -> Verdict
+    ensures { λ r. ⌜ r ≡ countVerdict size (now (contents .entry)) ⌝ }
+{
+    let count = line_count(contents);
+    if count < 1 {
+        return refused(6, 0);
+    }
+    if 16 < count {
+        return refused(6, 0);
+    }
+    if size < 2 + 8 * count {
+        return refused(6, 0);
+    }
+    Verdict::Accepted
+}
+
+fn line_right(line: Line, previous: u8, offset: usize) -> bool
+    ensures { λ r. ⌜ r ≡ fitsAfter line previous offset ⌝ }
+{
+    if line.kind <= previous {
+        return false;
+    }
+    if line.zero != 0 {
+        return false;
+    }
+    line.offset as usize == offset
+}
+
+// Refusal 7.
+pub fn lines(contents: &[u8], size: usize) -> Verdict
+    ensures { λ r. ⌜ r ≡ allLines size (now (contents .entry)) ⌝ }
+{
+    let count = line_count(contents);
+    let mut i: usize = 0;
+    let mut previous: u8 = 0;
+    let mut offset = 2 + 8 * count;
+    while i < count {
+        let line = line_at(contents, i);
+        if !line_right(line, previous, offset) {
+            return refused(7, i as u64);
+        }
+        previous = line.kind;
+        offset += line.length as usize;
+        i += 1;
+    }
+    if offset != size {
+        return refused(7, count as u64);
+    }
+    Verdict::Accepted
+}

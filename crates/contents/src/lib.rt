@@ -1,0 +1,103 @@
+// The contents of an image: what a line says, and refusals 5 to 7. Every function answers for every slice.
+ghost use mathlib.Core.Path.{_≡_};
+ghost use Rattle.numbers.specs.Fields.{numberAt};
+ghost use Rattle.image.specs.Contents.{lineCount, contentsVerdict};
+ghost use Rattle.contents.specs.Lines.{lineIn, lineAt};
+use numbers::fields;
+use numbers::slices;
+use refusals::Verdict;
+
+// The three checks.
+mod checks;
+
+// What a contents line says: the kind, a byte that is to be 0, and where the body starts, how long it is, the sum of its bytes.
+pub struct Line {
+    pub kind: u8,
+    pub zero: u8,
+    pub offset: u16,
+    pub length: u16,
+    pub sum: u16,
+}
+
+pub fn line_count(image: &[u8]) -> usize
+    ensures { λ r. ⌜ r ≡ lineCount (now (image .entry)) ⌝ }
+{
+    fields::number1(image, 1) as usize
+}
+
+// A line's bytes as one number, so that one bounds check serves all its fields. Not by `number8`, which called from here too
+// would no longer be inlined anywhere.
+fn eight_bytes(bytes: &[u8]) -> u64
+    ensures { λ r. ⌜ r ≡ numberAt 8 (now (bytes .entry)) 0 ⌝ }
+{
+    if bytes.len() < 8 {
+        let low = fields::number4(bytes, 0) as u64;
+        let high = fields::number4(bytes, 4) as u64;
+        return low + 4294967296 * high;
+    }
+    fields::number_of_8([
+        bytes[0],
+        bytes[1],
+        bytes[2],
+        bytes[3],
+        bytes[4],
+        bytes[5],
+        bytes[6],
+        bytes[7],
+    ])
+}
+
+// The line that these bytes begin with; bytes past the end are 0. Whoever lends eight bytes pays for no bounds check.
+pub fn line_in(bytes: &[u8]) -> Line
+    ensures { λ r. ⌜ r ≡ lineIn (now (bytes .entry)) ⌝ }
+{
+    let all = eight_bytes(bytes);
+    Line {
+        kind: (all % 256) as u8,
+        zero: (all / 256 % 256) as u8,
+        offset: (all / 65536 % 65536) as u16,
+        length: (all / 4294967296 % 65536) as u16,
+        sum: (all / 281474976710656) as u16,
+    }
+}
+
+// Past 2^60 lines a place has no room in 64 bits, and no slice goes so far.
+fn line_beyond(image: &[u8], line: usize) -> Line
+    ensures { λ r. ⌜ r ≡ lineAt (now (image .entry)) line ⌝ }
+{
+    if 1152921504606846976 <= line {
+        return line_in(slices::part(image, 0, 0));
+    }
+    line_in(slices::part(image, 2 + 8 * line, 8))
+}
+
+// Where all the lines are there, which is tested for all of them alike so that a loop tests it once, a line is read with no
+// further bounds check.
+pub fn line_at(image: &[u8], line: usize) -> Line
+    ensures { λ r. ⌜ r ≡ lineAt (now (image .entry)) line ⌝ }
+{
+    let count = line_count(image);
+    if count <= line {
+        return line_beyond(image, line);
+    }
+    if image.len() < 2 + 8 * count {
+        return line_beyond(image, line);
+    }
+    let place = 2 + 8 * line;
+    line_in(&image[place..place + 8])
+}
+
+// Refusals 5 to 7 of an image of this size, by its contents alone: the bodies need not be there.
+pub fn contents_verdict(contents: &[u8], size: usize) -> Verdict
+    ensures { λ r. ⌜ r ≡ contentsVerdict size (now (contents .entry)) ⌝ }
+{
+    let start = checks::start(contents, size);
+    let Verdict::Accepted = start else {
+        return start;
+    };
+    let count = checks::count(contents, size);
+    let Verdict::Accepted = count else {
+        return count;
+    };
+    checks::lines(contents, size)
+}
