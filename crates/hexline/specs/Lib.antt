@@ -1,0 +1,5 @@
+pub mod Line
+pub mod DigitsLaws
+pub mod PairsLaws
+pub mod LineLaws
+pub mod TypedLaws
