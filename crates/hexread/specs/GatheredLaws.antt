@@ -1,6 +1,6 @@
 -- A line that is found by its record's count is the line that reading gathers, up to its LF.
 use mathlib.Core.Path.{_≡_, refl, sym, ap, _∙_}
-use mathlib.Core.Bool.{true, false}
+use mathlib.Core.Bool.{true, false, _&&_}
 use mathlib.Core.List.{List, [], _∷_, _++_, append-nil, append-assoc}
 use Prim.Native.Nat.{ℕ, zero, suc, _+_, _-_, _*_, _≤_, _<_, suc-le-suc}
 use native.Mathlib.Omega.{arith}
@@ -9,11 +9,13 @@ use borrow.Author.Tests.{eq-eqb, ne-eqb, eqb-true}
 use lib.Dec.{eqb}
 use lib.ListN.{length, take, drop, getD, take-append-drop, List·getD-eq-default}
 use lib.Seq.{drop-cons, take-suc, getD-take, getD-drop, take-take, length-take-le}
-use Rattle.laws.specs.Cases.{split, decide}
+use Rattle.laws.specs.Cases.{split, decide, both-left, both-right}
 use Rattle.refusals.specs.Refusals.{refused, refusal}
 use Rattle.hextext.specs.Record.{allDigits, recordBytes, countOf, dataOf, formed, judge}
 use Rattle.hextext.specs.RecordLaws.{byteAt, digit-low, allDigits-at, recordBytes-head, formed-long, formed-length, formed-digits, formed-colon, judge-unformed}
 use Rattle.hextext.specs.Text.{bare, after, reading}
+use Rattle.hexline.specs.Line.{nextLine}
+use Rattle.hexline.specs.LineLaws.{next-lf, next-crlf}
 
 -- ---- a line end
 
@@ -21,6 +23,30 @@ use Rattle.hextext.specs.Text.{bare, after, reading}
 pub data Ends (u : List ℕ) (e : ℕ) : ℕ → Type 0 where
   lf : e < length u → getD u e 0 ≡ 10 → Ends u e (e + 1)
   crlf : e + 1 < length u → getD u e 0 ≡ 13 → getD u (e + 1) 0 ≡ 10 → Ends u e (e + 2)
+
+there : (u : List ℕ) (i c : ℕ) → getD u i 0 ≡ c → 0 < c → i < length u
+there u i c w h = split (length u) i (λ k. omega (arith, List·getD-eq-default u 0 k)) (λ k. k)
+
+module _ (u : List ℕ) (e next : ℕ) (f : next ≡ nextLine u e) where
+  pub ends-found : (next ≡ 0 → ⊥) → Ends u e next
+  unfolding nextLine
+  ends-found z =
+      decide (eqb (getD u e 0) 10)
+      (λ (q : eqb (getD u e 0) 10 ≡ true).
+      let w = eqb-true (getD u e 0) 10 q in
+      let n : next ≡ e + 1 = rw q at f in
+      rw n (lf (there u e 10 w (omega arith)) w))
+      (λ (q : eqb (getD u e 0) 10 ≡ false). decide (eqb (getD u e 0) 13 && eqb (getD u (e + 1) 0) 10)
+      (λ (p : (eqb (getD u e 0) 13 && eqb (getD u (e + 1) 0) 10) ≡ true).
+      let r = eqb-true (getD u e 0) 13 (both-left (eqb (getD u e 0) 13) (eqb (getD u (e + 1) 0) 10) p) in
+      let w = eqb-true (getD u (e + 1) 0) 10 (both-right (eqb (getD u e 0) 13) (eqb (getD u (e + 1) 0) 10) p) in
+      let n : next ≡ e + 2 = rw (q, p) at f in
+      rw n (crlf (there u (e + 1) 10 w (omega arith)) r w))
+      (λ (p : (eqb (getD u e 0) 13 && eqb (getD u (e + 1) 0) 10) ≡ false). absurd (z (rw (q, p) at f))))
+
+  pub ends-none : next ≡ 0 → (other : ℕ) → Ends u e other → ⊥
+  ends-none z other (lf h w) = omega (arith, next-lf u e w)
+  ends-none z other (crlf h r w) = omega (arith, next-crlf u e (λ v. omega arith) r w)
 
 pub ends-inside : {u : List ℕ} {e next : ℕ} → Ends u e next → e < length u
 ends-inside (lf h k) = h

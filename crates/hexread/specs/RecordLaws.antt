@@ -10,11 +10,11 @@ use lib.Seq.{paste-zero, take-paste}
 use Rattle.laws.specs.Sums.{total}
 use Rattle.hextext.specs.declared.Record.{Record}
 use Rattle.hextext.specs.declared.Record.the-variants.{Data, End, Fault}
-use Rattle.hextext.specs.Record.{allDigits, bytesOf, recordBytes, countOf, dataOf, formed, summed, typed, judge}
+use Rattle.hextext.specs.Record.{allDigits, bytesOf, recordBytes, countOf, dataOf, formed, summed, lineOf, typed, placed, judge}
 use Rattle.hextext.specs.RecordLaws.{byteAt, allDigits-end, bytes-total-more, bytes-total-end, formed-at, recordBytes-head, length-bytesOf}
+use Rattle.hexline.specs.TypedLaws.{end-empty, says-data}
 use Rattle.hexread.specs.DigitsLaws.{Pair, pair-byte, pair-digits, pair-none}
 use Rattle.hexread.specs.PairsLaws.{TookData}
-use Rattle.hexread.specs.TypedLaws.{end-empty, says-data}
 
 -- a line with a colon and a good count n, as long as n says
 pub record Counted (l : List ℕ) (n : ℕ) : Type 0 where
@@ -54,7 +54,7 @@ module _ (l : List ℕ) (n : ℕ) (v : Counted l n) where
 
   module _ (d d′ : List ℕ) (room at : ℕ) where
     no-digits : allDigits (drop 1 l) ≡ false → Taken (Fault 1) l d d′ room at
-    unfolding judge
+    unfolding judge placed lineOf
     no-digits e = taken-fault 1 l d d′ room at (rw (formed-by-digits false e))
 
     -- each section knows one pair more
@@ -112,12 +112,12 @@ module _ (l : List ℕ) (n : ℕ) (v : Counted l n) where
                     ))
 
                 pub taken-bad-sum : ((n + high + low + kind + s + check) % 256 ≡ 0 → ⊥) → Taken (Fault 2) l d d′ room at
-                unfolding judge summed
+                unfolding judge placed lineOf summed
                 taken-bad-sum h =
                     taken-fault 2 l d d′ room at (rw (formed-by-digits true digits-all, total-of-pairs, ne-eqb ((n + high + low + kind + s + check) % 256) 0 h))
 
                 judge-typed : (n + high + low + kind + s + check) % 256 ≡ 0 → judge room at l ≡ typed room at n (high * 256 + low) kind
-                unfolding judge summed
+                unfolding judge placed lineOf summed
                 judge-typed h =
                     rw (
                       formed-by-digits true digits-all,

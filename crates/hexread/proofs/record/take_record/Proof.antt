@@ -71,20 +71,20 @@ same-length-3 c = search laws
 returns-6 : tie.Need-returns-6
 returns-6 c = taken-bad-sum _ _ (search) _ _ _ _ _ (search) (search) _ (search) (search) _ (search) (search) _ (search) (search) _ (search) (search) (c .if6 .taken)
 
-mul-judged : tie.Need-mul-judged
-mul-judged c = search laws
+mul-address : tie.Need-mul-address
+mul-address c = search laws
 
-add-judged : tie.Need-add-judged
-add-judged c = search laws
+add-address : tie.Need-add-address
+add-address c = search laws
 
-judged-requires : tie.Need-judged-requires
-judged-requires c κs = search laws
+judge-header-requires : tie.Need-judge-header-requires
+judge-header-requires c κs = search laws
 
 same-length-4 : tie.Need-same-length-4
 same-length-4 c = search laws
 
 returns-7 : tie.Need-returns-7
-returns-7 c = taken-typed _ _ (search) _ _ _ _ _ (search) (search) _ (search) (search) _ (search) (search) _ (search) (search) _ (search) (search) _ (c .before .if6 .left) (c .judged .ensures) (search) (search)
+returns-7 c = taken-typed _ _ (search) _ _ _ _ _ (search) (search) _ (search) (search) _ (search) (search) _ (search) (search) _ (search) (search) _ (c .before .if6 .left) (c .judge-header .ensures) (search) (search)
 
 pub take-record-spec : {M : Type 1} → statement M
 take-record-spec =
@@ -112,8 +112,8 @@ take-record-spec =
     add-if6-5
     same-length-3
     returns-6
-    mul-judged
-    add-judged
-    judged-requires
+    mul-address
+    add-address
+    judge-header-requires
     same-length-4
     returns-7)
