@@ -3,3 +3,4 @@ pub mod DigitsLaws
 pub mod PairsLaws
 pub mod LineLaws
 pub mod TypedLaws
+pub mod EndsLaws

@@ -1,4 +1,4 @@
--- What is asked of a line beside its record: the sum of its digits, a data byte, where the next line starts.
+-- What is asked of a line beside its record: the sum of its digits, a data byte, whether it ends at a place.
 use mathlib.Core.Bool.{cond, _&&_}
 use mathlib.Core.List.{List}
 use Prim.Native.Nat.{ℕ, _+_, _%_}

@@ -1,4 +1,4 @@
--- A line judged by itself, a law for each way out; its data bytes; where the next line starts.
+-- A line judged by itself, a law for each way out, and its data bytes.
 use mathlib.Core.Path.{_≡_, refl, sym, ap, _∙_}
 use mathlib.Core.Bool.{Bool, true, false, cond, _&&_, and-false, and-true}
 use mathlib.Core.List.{List, [], _∷_}
@@ -14,7 +14,7 @@ use Rattle.laws.specs.Sums.{total}
 use Rattle.hextext.specs.declared.Line.the-variants.{Good, Bad}
 use Rattle.hextext.specs.Record.{digit, allDigits, bytesOf, recordBytes, dataOf, formed, summed, header, lineOf}
 use Rattle.hextext.specs.RecordLaws.{digit-low, digit-decimal, digit-between, digit-upper-case, digit-gap, digit-lower-case, digit-high, byteAt, bytesOf-more, bytesOf-end, formed-short, formed-at}
-use Rattle.hexline.specs.Line.{digitsSum, dataByte, nextLine}
+use Rattle.hexline.specs.Line.{digitsSum, dataByte}
 
 -- ---- a byte of a line
 
@@ -134,30 +134,3 @@ module _ (l : List ℕ) where
         good-line z high low kind ph pl pk =
             let d = all-digits (omega arith) in
             rw (formed-is true d, ← sum-is true d, eq-eqb s 0 z, byte-at l 1 1, byte-at l 1 2, byte-at l 1 3, ← c .is, ← ph .is, ← pl .is, ← pk .is)
-
--- ---- where the next line starts
-
-module _ (u : List ℕ) (e : ℕ) where
-  pub next-short : length u ≤ e → 0 ≡ nextLine u e
-  unfolding nextLine
-  next-short h = rw (List·getD-eq-default u 0 h)
-
-  pub next-lf : getD u e 0 ≡ 10 → e + 1 ≡ nextLine u e
-  unfolding nextLine
-  next-lf w = rw (eq-eqb (getD u e 0) 10 w)
-
-  module _ (other : getD u e 0 ≡ 10 → ⊥) where
-    pub next-other : (getD u e 0 ≡ 13 → ⊥) → 0 ≡ nextLine u e
-    unfolding nextLine
-    next-other k = rw (ne-eqb (getD u e 0) 10 other, ne-eqb (getD u e 0) 13 k)
-
-    pub next-cr : (getD u (e + 1) 0 ≡ 10 → ⊥) → 0 ≡ nextLine u e
-    unfolding nextLine
-    next-cr k = rw (ne-eqb (getD u e 0) 10 other, ne-eqb (getD u (e + 1) 0) 10 k, and-false (eqb (getD u e 0) 13))
-
-    pub next-cut : length u ≤ e + 1 → 0 ≡ nextLine u e
-    next-cut h = next-cr (λ w. omega (arith, List·getD-eq-default u 0 h))
-
-    pub next-crlf : getD u e 0 ≡ 13 → getD u (e + 1) 0 ≡ 10 → e + 2 ≡ nextLine u e
-    unfolding nextLine
-    next-crlf c w = rw (ne-eqb (getD u e 0) 10 other, eq-eqb (getD u e 0) 13 c, eq-eqb (getD u (e + 1) 0) 10 w)

@@ -1,6 +1,6 @@
 ghost use mathlib.Core.Path.{_≡_};
 ghost use Rattle.hextext.specs.Record.{lineOf, typed};
-ghost use Rattle.hexline.specs.Line.{dataByte, nextLine};
+ghost use Rattle.hexline.specs.Line.{dataByte};
 ghost use Rattle.hexline.specs.LineLaws.{SpelledAt};
 use crate::digits::digit;
 use crate::digits::digits_sum;
@@ -93,27 +93,4 @@ pub fn judge_header(room: usize, at: usize, header: Header) -> Record
         return Record::Fault(3);
     }
     Record::End
-}
-
-// Where the next line starts, if a line end stands at `end`, or 0.
-pub fn next_line(text: &[u8], end: usize) -> usize
-    ensures { λ r. ⌜ r ≡ nextLine (now (text .entry)) end ⌝ }
-{
-    if text.len() <= end {
-        return 0;
-    }
-    if text[end] == b'\n' {
-        return end + 1;
-    }
-    if text[end] != b'\r' {
-        return 0;
-    }
-    let last = end + 1;
-    if text.len() <= last {
-        return 0;
-    }
-    if text[last] != b'\n' {
-        return 0;
-    }
-    end + 2
 }

@@ -75,13 +75,7 @@ fn put_data(line: &[u8], count: usize, image: &mut [u8], to: usize) -> usize
 }
 
 // The sum of the data, and these in the image where they have room; where not, the image stays.
-fn take_data(
-    line: &[u8],
-    count: usize,
-    image: &mut [u8],
-    to: usize,
-    space: usize,
-) -> usize
+fn take_data(line: &[u8], count: usize, image: &mut [u8], to: usize, space: usize) -> usize
     requires { ⌜ (9 + count * 2 ≤ length (now line)) × (to + space ≤ length (now image)) ⌝ }
     ensures { λ r. ⌜ TookData (now (line .entry)) count (now (image .entry)) (now (image .exit)) to space r ⌝ }
 {

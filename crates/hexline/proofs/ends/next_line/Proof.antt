@@ -1,7 +1,7 @@
 use borrow.Author.Needs.{needs}
-use Rattle.hexline.specs.LineLaws.{next-short, next-lf, next-other, next-cut, next-cr, next-crlf}
-use Rattle.hexline.proofs.line.next_line.Statement.{statement}
-use Rattle.hexline.proofs.line.next_line.Tie as tie
+use Rattle.hexline.specs.EndsLaws.{next-short, next-lf, next-other, next-cut, next-cr, next-crlf}
+use Rattle.hexline.proofs.ends.next_line.Statement.{statement}
+use Rattle.hexline.proofs.ends.next_line.Tie as tie
 
 returns : tie.Need-returns
 returns c = search (needs, next-short)
