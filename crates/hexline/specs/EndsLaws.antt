@@ -1,6 +1,6 @@
 -- Where lines end: a law for each way out.
 use mathlib.Core.Path.{_≡_, sym}
-use mathlib.Core.Bool.{_&&_, and-false}
+use mathlib.Core.Bool.{and-false}
 use mathlib.Core.List.{List}
 use Prim.Native.Nat.{ℕ, _+_, _-_, _≤_, _<_}
 use native.Mathlib.Omega.{arith}

@@ -1,6 +1,6 @@
 -- A line judged by itself, a law for each way out, and its data bytes.
-use mathlib.Core.Path.{_≡_, refl, sym, ap, _∙_}
-use mathlib.Core.Bool.{Bool, true, false, cond, _&&_, and-false, and-true}
+use mathlib.Core.Path.{_≡_, refl, _∙_}
+use mathlib.Core.Bool.{Bool, true, false, cond, and-false, and-true}
 use mathlib.Core.List.{List, [], _∷_}
 use Prim.Native.Nat.{ℕ, zero, suc, _+_, _-_, _*_, _%_, _≤_, _<_}
 use native.Mathlib.Omega.{arith}
@@ -11,14 +11,15 @@ use lib.ListN.{length, take, drop, getD, length-drop, length-take, List·getD-eq
 use lib.Seq.{drop-drop, getD-take, getD-drop, take-all}
 use Rattle.laws.specs.Cases.{split, decide}
 use Rattle.laws.specs.Sums.{total}
+use Rattle.hextext.specs.declared.Header.{Header}
 use Rattle.hextext.specs.declared.Line.the-variants.{Good, Bad}
 use Rattle.hextext.specs.Record.{digit, allDigits, bytesOf, recordBytes, dataOf, formed, summed, header, lineOf}
-use Rattle.hextext.specs.RecordLaws.{digit-low, digit-decimal, digit-between, digit-upper-case, digit-gap, digit-lower-case, digit-high, byteAt, bytesOf-more, bytesOf-end, formed-short, formed-at}
+use Rattle.hextext.specs.RecordLaws.{digit-low, digit-decimal, digit-between, digit-upper-case, digit-gap, digit-lower-case, digit-high, byteAt, bytesOf-more, bytesOf-end, getD-bytesOf, allDigits-at, formed-short, formed-at, formed-digits, formed-length}
 use Rattle.hexline.specs.Line.{digitsSum, dataByte}
 
 -- ---- a byte of a line
 
-pub digit-most : (c : ℕ) → digit c ≤ 16
+digit-most : (c : ℕ) → digit c ≤ 16
 digit-most c =
     split 103 c (λ h. omega (arith, digit-high c (omega arith)))
     (λ h. split 97 c (λ k. omega (arith, digit-lower-case c k (omega arith)))
@@ -55,7 +56,7 @@ bytesOf-tail [] j = refl
 bytesOf-tail (a ∷ []) j = refl
 bytesOf-tail (a ∷ b ∷ l) j = refl
 
-pub byte-at : (l : List ℕ) (i j : ℕ) → getD (bytesOf (drop i l)) j 0 ≡ getD (bytesOf (drop (i + j * 2) l)) 0 0
+byte-at : (l : List ℕ) (i j : ℕ) → getD (bytesOf (drop i l)) j 0 ≡ getD (bytesOf (drop (i + j * 2) l)) 0 0
 byte-at l i zero = let e : i + zero * 2 ≡ i = omega arith in rw e
 byte-at l i (suc j) =
     let e : i + suc j * 2 ≡ i + 2 + j * 2 = omega arith in
@@ -77,6 +78,35 @@ module _ (l : List ℕ) (i n : ℕ) (c : SpelledAt l 1 n) where
       let bytes : List ℕ = bytesOf (drop 1 l) in
       let e : 1 + (4 + i) * 2 ≡ 9 + i * 2 = omega arith in
       rw (getD-take (getD bytes 0 0) (drop 4 bytes) i 0 (omega (arith, c .is)), getD-drop 4 bytes i 0, byte-at l 1 (4 + i), e, p .is)
+
+-- in a record it is the byte as it stands
+module _ (l : List ℕ) (h : Header) (good : lineOf l ≡ Good h) where
+  good-formed : formed l ≡ true
+  unfolding lineOf
+  good-formed =
+      decide (formed l) (λ (q : formed l ≡ true). q)
+      (λ (q : formed l ≡ false). let bad : Bad 1 ≡ Good h = rw q at good in let z : _≡_ {A = ℕ} 0 1 = cc in absurd (omega arith))
+
+  digit-small : (j : ℕ) → j < length l → 0 < j → digit (getD l j 0) < 16
+  digit-small j k p =
+      let d = allDigits-at (drop 1 l) (j - 1) (formed-digits l good-formed) (omega (arith, length-drop 1 l)) in
+      let e : 1 + (j - 1) ≡ j = omega arith in
+      rw (getD-drop 1 l (j - 1) 0, e) at d
+
+  pub data-byte-in-record : (i : ℕ) → dataByte l i ≡ getD (dataOf (recordBytes l)) i 0
+  unfolding dataByte dataOf recordBytes byteAt
+  data-byte-in-record i =
+      let bytes : List ℕ = bytesOf (drop 1 l) in
+      let long : length l ≡ 11 + getD bytes 0 0 * 2 = formed-length l good-formed in
+      split (getD bytes 0 0) i
+      (λ k.
+      let after : length (take (getD bytes 0 0) (drop 4 bytes)) ≤ i = omega (arith, length-take (getD bytes 0 0) (drop 4 bytes)) in
+      rw (List·getD-eq-default (take (getD bytes 0 0) (drop 4 bytes)) 0 after))
+      (λ k.
+      let at : ℕ = 1 + (4 + i) * 2 in
+      let high = digit-small at (omega arith) (omega arith) in
+      let low = digit-small (at + 1) (omega arith) (omega arith) in
+      rw (getD-take (getD bytes 0 0) (drop 4 bytes) i 0 k, getD-drop 4 bytes i 0, getD-bytesOf l 1 (4 + i) (omega arith)) (omega arith))
 
 -- ---- a line by itself
 

@@ -9,7 +9,7 @@ use lib.Dec.{ltb, leb, eqb}
 use lib.ListN.{length}
 use Rattle.laws.specs.Cases.{positive, both-left, both-right}
 use Rattle.hextext.specs.declared.Line.{Line}
-use Rattle.hextext.specs.declared.Line.the-variants.{Good, Bad}
+use Rattle.hextext.specs.declared.Line.the-variants.{Bad}
 use Rattle.hextext.specs.declared.Record.the-variants.{Data, End, Fault}
 use Rattle.hextext.specs.Record.{recordBytes, countOf, addressOf, typeOf, formed, summed, lineOf, typed, placed, judge}
 use Rattle.hextext.specs.RecordLaws.{formed-length}

@@ -63,7 +63,7 @@ module _ (l : List ℕ) (i b : ℕ) (p : Pair l i b) where
   pub pair-small : digit (getD l i 0) < 16 → digit (getD l (i + 1) 0) < 16 → b < 256
   pair-small h k = omega (arith, p .is, value-yes (getD l i 0) h, value-yes (getD l (i + 1) 0) k)
 
-  pub pair-spells : b < 256 → Spells l i b
+  pair-spells : b < 256 → Spells l i b
   unfolding byteAt
   pair-spells h =
       let high = value-below (getD l i 0) (omega (arith, p .is)) in

@@ -3,7 +3,6 @@ use borrow.Author.Needs.{needs}
 use Rattle.hexread.specs.PairsLaws.{Putting, putting-first, putting-more, putting-failed, putting-end}
 use Rattle.hexread.proofs.record.put_pairs.Statement.{statement}
 use Rattle.hexread.proofs.record.put_pairs.Tie as tie
-use Rattle.std.proofs.num.wrapping_add_u8.Reads as wrapping-add-u8-reads
 
 ruleset laws = (needs, putting-first, putting-more, putting-failed, putting-end)
 
