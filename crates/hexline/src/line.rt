@@ -47,9 +47,10 @@ pub fn judge_line(line: &[u8]) -> Line
     let high = byte_at(line, 3);
     let low = byte_at(line, 5);
     let kind = byte_at(line, 7);
+    let address = high * 256 + low;
     Line::Good(Header {
         count,
-        address: high * 256 + low,
+        address,
         kind,
     })
 }

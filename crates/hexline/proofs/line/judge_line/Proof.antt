@@ -51,11 +51,11 @@ byte-at-requires-3 c κs = search needs
 byte-at-requires-4 : tie.Need-byte-at-requires-4
 byte-at-requires-4 c κs = search needs
 
-mul-t7 : tie.Need-mul-t7
-mul-t7 c = search needs
+mul-address : tie.Need-mul-address
+mul-address c = search needs
 
-add-t11 : tie.Need-add-t11
-add-t11 c = search needs
+add-address : tie.Need-add-address
+add-address c = search needs
 
 returns-6 : tie.Need-returns-6
 returns-6 c = search (needs, good-line)
@@ -80,6 +80,6 @@ judge-line-spec =
     byte-at-requires-2
     byte-at-requires-3
     byte-at-requires-4
-    mul-t7
-    add-t11
+    mul-address
+    add-address
     returns-6)
