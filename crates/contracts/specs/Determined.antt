@@ -7,6 +7,7 @@ use Rattle.whole.proofs.rounding as rounding
 use Rattle.numbers.proofs.fields as fields
 use Rattle.numbers.proofs.slices as slices
 use Rattle.refusals.proofs as refusals
+use Rattle.hexline.proofs as hexline
 use Rattle.hexread.proofs as hexread
 use Rattle.hexwrite.proofs as hexwrite
 use Rattle.contents.proofs as contents
@@ -97,6 +98,34 @@ tell-filled-determined _ _ _ _ _ _ = answers
 
 pub settled-determined : Determines refusals.settled.ended refusals.settled.Reads.Learnt
 settled-determined _ _ _ _ _ _ p q = next (first (determined (p .same) (q .same), determined (p .cleared) (q .cleared)))
+
+-- hexline
+pub digit-determined : Determines hexline.digit.ended hexline.digit.Reads.Learnt
+digit-determined _ _ _ _ _ _ = answers
+
+pub greatest-determined : Determines hexline.greatest.ended hexline.greatest.Reads.Learnt
+greatest-determined _ _ _ _ _ _ = answers
+
+pub digits-sum-determined : Determines hexline.digits_sum.ended hexline.digits_sum.Reads.Learnt
+digits-sum-determined _ _ _ _ _ _ = answers
+
+pub judge-line-determined : Determines hexline.judge_line.ended hexline.judge_line.Reads.Learnt
+judge-line-determined _ _ _ _ _ _ = answers
+
+pub judge-header-determined : Determines hexline.judge_header.ended hexline.judge_header.Reads.Learnt
+judge-header-determined _ _ _ _ _ _ = answers
+
+pub data-byte-determined : Determines hexline.data_byte.ended hexline.data_byte.Reads.Learnt
+data-byte-determined _ _ _ _ _ _ = answers
+
+pub line-length-determined : Determines hexline.line_length.ended hexline.line_length.Reads.Learnt
+line-length-determined _ _ _ _ _ _ = answers
+
+pub bare-length-determined : Determines hexline.bare_length.ended hexline.bare_length.Reads.Learnt
+bare-length-determined _ _ _ _ _ _ = answers
+
+pub next-line-determined : Determines hexline.next_line.ended hexline.next_line.Reads.Learnt
+next-line-determined _ _ _ _ _ _ = answers
 
 -- hexread
 pub read-determined : Determines hexread.read.ended hexread.read.Reads.Learnt

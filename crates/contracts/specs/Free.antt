@@ -6,6 +6,7 @@ use Rattle.whole.proofs.rounding as rounding
 use Rattle.numbers.proofs.fields as fields
 use Rattle.numbers.proofs.slices as slices
 use Rattle.refusals.proofs as refusals
+use Rattle.hexline.proofs as hexline
 use Rattle.hexread.proofs as hexread
 use Rattle.hexwrite.proofs as hexwrite
 use Rattle.contents.proofs as contents
@@ -95,6 +96,34 @@ tell-filled-free _ _ _ = refl
 
 pub settled-free : AsksNothing refusals.settled.ended refusals.settled.Reads.requires
 settled-free _ _ _ = refl
+
+-- hexline
+pub digit-free : AsksNothing hexline.digit.ended hexline.digit.Reads.requires
+digit-free _ _ _ = refl
+
+pub greatest-free : AsksNothing hexline.greatest.ended hexline.greatest.Reads.requires
+greatest-free _ _ _ = refl
+
+pub digits-sum-free : AsksNothing hexline.digits_sum.ended hexline.digits_sum.Reads.requires
+digits-sum-free _ _ _ = refl
+
+pub judge-line-free : AsksNothing hexline.judge_line.ended hexline.judge_line.Reads.requires
+judge-line-free _ _ _ = refl
+
+pub judge-header-free : AsksNothing hexline.judge_header.ended hexline.judge_header.Reads.requires
+judge-header-free _ _ _ = refl
+
+pub data-byte-free : AsksNothing hexline.data_byte.ended hexline.data_byte.Reads.requires
+data-byte-free _ _ _ = refl
+
+pub line-length-free : AsksNothing hexline.line_length.ended hexline.line_length.Reads.requires
+line-length-free _ _ _ = refl
+
+pub bare-length-free : AsksNothing hexline.bare_length.ended hexline.bare_length.Reads.requires
+bare-length-free _ _ _ = refl
+
+pub next-line-free : AsksNothing hexline.next_line.ended hexline.next_line.Reads.requires
+next-line-free _ _ _ = refl
 
 -- hexread
 pub read-free : AsksNothing hexread.read.ended hexread.read.Reads.requires

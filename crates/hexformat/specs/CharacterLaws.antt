@@ -9,7 +9,7 @@ use lib.Dec.{eqb}
 use lib.ListN.{length, take, getD, length-append, length-take}
 use Rattle.laws.specs.Cases.{decide}
 use Rattle.refusals.specs.Refusals.{result}
-use Rattle.hextext.specs.Record.{digit, bytesOf, recordBytes, countOf, dataOf, formed, judge}
+use Rattle.hextext.specs.Record.{digit, bytesOf, recordBytes, countOf, dataOf, formed, lineOf, placed, judge}
 use Rattle.hextext.specs.RecordLaws.{formed-colon, formed-length, formed-long}
 use Rattle.hextext.specs.Text.{bare, after, reading}
 use Rattle.hexformat.specs.Format.{GoodText}
@@ -74,7 +74,7 @@ line-feed room line image u (d ∷ text) y z c h e f =
     later (a ∷ p) h e = no-colon room line image a p [] text z e
 
 same-judged : (room at : ℕ) (l m : List ℕ) → formed l ≡ true → formed m ≡ true → recordBytes l ≡ recordBytes m → judge room at m ≡ judge room at l
-unfolding judge
+unfolding judge placed lineOf
 same-judged room at l m f g e = rw (f, g, e)
 
 -- p and q are what was passed of the line in each text; wherever the line ends, they say the same

@@ -11,7 +11,7 @@ use lib.Seq.{getD-append-seam}
 use Rattle.laws.specs.Cases.{decide, never}
 use Rattle.laws.specs.Sums.{total}
 use Rattle.refusals.specs.Refusals.{Outcome, result}
-use Rattle.hextext.specs.Record.{digit, recordBytes, dataOf, formed, summed, judge}
+use Rattle.hextext.specs.Record.{digit, recordBytes, dataOf, formed, summed, lineOf, placed, judge}
 use Rattle.hextext.specs.RecordLaws.{digit-low, digit-between, allDigits-at, formed-colon, formed-digits, formed-length}
 use Rattle.hextext.specs.Text.{bare, after, reading}
 use Rattle.hextext.specs.declared.Record.{Record}
@@ -51,7 +51,7 @@ pub record Sound (l : List ℕ) : Type 0 where
 
 -- a line that is read is sound
 pub sound-line : (room line : ℕ) (image l text y : List ℕ) → ended room line image l text ≡ result y → Sound (bare l)
-unfolding judge summed after
+unfolding judge placed lineOf summed after
 sound-line room line image l text y e =
     let s : ℕ = total (recordBytes (bare l)) % 256 in
     decide (formed (bare l))

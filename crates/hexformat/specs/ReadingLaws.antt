@@ -11,7 +11,7 @@ use Rattle.laws.specs.Cases.{split}
 use Rattle.laws.specs.Sums.{total}
 use Rattle.refusals.specs.declared.Refusal.{Refusal}
 use Rattle.refusals.specs.Refusals.{Outcome, result, refused}
-use Rattle.hextext.specs.Record.{allDigits, recordBytes, dataOf, formed, summed, typed, judge}
+use Rattle.hextext.specs.Record.{allDigits, recordBytes, dataOf, formed, summed, typed, lineOf, placed, judge}
 use Rattle.hextext.specs.RecordLaws.{digit-low, allDigits-at}
 use Rattle.hextext.specs.Text.{bare, after, reading}
 use Rattle.hextext.specs.declared.Record.{Record}
@@ -94,13 +94,13 @@ module _ (r : Fields) where
         rw (spelled-digits s, spelled-bytes s, eq-eqb (length l) ((length (r .contents) + 5) * 2) q)
 
     pub judge-balanced : (room at : ℕ) → Balanced r → judge room at (58 ∷ l) ≡ typed room at (length (r .contents)) (r .address) (r .type)
-    unfolding judge summed recordBytes
+    unfolding judge placed lineOf summed recordBytes
     judge-balanced room at z =
         let q : r .address / 256 * 256 + r .address % 256 ≡ r .address = omega arith in
         rw (formed-spelled, spelled-bytes s, eq-eqb (total (bytes r) % 256) 0 z, q)
 
     pub judge-unbalanced : (room at : ℕ) → (Balanced r → ⊥) → judge room at (58 ∷ l) ≡ Fault 2
-    unfolding judge summed recordBytes
+    unfolding judge placed lineOf summed recordBytes
     judge-unbalanced room at z = rw (formed-spelled, spelled-bytes s, ne-eqb (total (bytes r) % 256) 0 z)
 
 -- the reader at a record's line, judged as `judged`

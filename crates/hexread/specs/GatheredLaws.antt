@@ -1,19 +1,22 @@
 -- A line that is found by its record's count is the line that reading gathers, up to its LF.
 use mathlib.Core.Path.{_≡_, refl, sym, ap, _∙_}
-use mathlib.Core.Bool.{true, false}
+use mathlib.Core.Bool.{true, false, _&&_}
 use mathlib.Core.List.{List, [], _∷_, _++_, append-nil, append-assoc}
 use Prim.Native.Nat.{ℕ, zero, suc, _+_, _-_, _*_, _≤_, _<_, suc-le-suc}
 use native.Mathlib.Omega.{arith}
 use native.Mathlib.Numerals.{add-one}
 use borrow.Author.Tests.{eq-eqb, ne-eqb, eqb-true}
 use lib.Dec.{eqb}
-use lib.ListN.{length, take, drop, getD, take-append-drop, List·getD-eq-default}
-use lib.Seq.{drop-cons, take-suc, getD-take, getD-drop, take-take, length-take-le}
-use Rattle.laws.specs.Cases.{split, decide}
+use lib.ListN.{length, take, drop, getD, length-append, take-append-drop, List·getD-eq-default}
+use lib.Seq.{drop-cons, take-append-seam, drop-append-add, take-suc, getD-take, getD-drop, take-take, length-take-le}
+use Rattle.laws.specs.Cases.{split, decide, both-left, both-right}
 use Rattle.refusals.specs.Refusals.{refused, refusal}
 use Rattle.hextext.specs.Record.{allDigits, recordBytes, countOf, dataOf, formed, judge}
 use Rattle.hextext.specs.RecordLaws.{byteAt, digit-low, allDigits-at, recordBytes-head, formed-long, formed-length, formed-digits, formed-colon, judge-unformed}
-use Rattle.hextext.specs.Text.{bare, after, reading}
+use Rattle.hextext.specs.Text.{lineLength, bare, after, reading}
+use Rattle.hextext.specs.TextLaws.{reading-line}
+use Rattle.hexline.specs.Line.{nextLine}
+use Rattle.hexline.specs.EndsLaws.{next-lf, next-crlf}
 
 -- ---- a line end
 
@@ -21,6 +24,30 @@ use Rattle.hextext.specs.Text.{bare, after, reading}
 pub data Ends (u : List ℕ) (e : ℕ) : ℕ → Type 0 where
   lf : e < length u → getD u e 0 ≡ 10 → Ends u e (e + 1)
   crlf : e + 1 < length u → getD u e 0 ≡ 13 → getD u (e + 1) 0 ≡ 10 → Ends u e (e + 2)
+
+there : (u : List ℕ) (i c : ℕ) → getD u i 0 ≡ c → 0 < c → i < length u
+there u i c w h = split (length u) i (λ k. omega (arith, List·getD-eq-default u 0 k)) (λ k. k)
+
+module _ (u : List ℕ) (e next : ℕ) (f : next ≡ nextLine u e) where
+  pub ends-found : (next ≡ 0 → ⊥) → Ends u e next
+  unfolding nextLine
+  ends-found z =
+      decide (eqb (getD u e 0) 10)
+      (λ (q : eqb (getD u e 0) 10 ≡ true).
+      let w = eqb-true (getD u e 0) 10 q in
+      let n : next ≡ e + 1 = rw q at f in
+      rw n (lf (there u e 10 w (omega arith)) w))
+      (λ (q : eqb (getD u e 0) 10 ≡ false). decide (eqb (getD u e 0) 13 && eqb (getD u (e + 1) 0) 10)
+      (λ (p : (eqb (getD u e 0) 13 && eqb (getD u (e + 1) 0) 10) ≡ true).
+      let r = eqb-true (getD u e 0) 13 (both-left (eqb (getD u e 0) 13) (eqb (getD u (e + 1) 0) 10) p) in
+      let w = eqb-true (getD u (e + 1) 0) 10 (both-right (eqb (getD u e 0) 13) (eqb (getD u (e + 1) 0) 10) p) in
+      let n : next ≡ e + 2 = rw (q, p) at f in
+      rw n (crlf (there u (e + 1) 10 w (omega arith)) r w))
+      (λ (p : (eqb (getD u e 0) 13 && eqb (getD u (e + 1) 0) 10) ≡ false). absurd (z (rw (q, p) at f))))
+
+  pub ends-none : next ≡ 0 → (other : ℕ) → Ends u e other → ⊥
+  ends-none z other (lf h w) = omega (arith, next-lf u e w)
+  ends-none z other (crlf h r w) = omega (arith, next-crlf u e (λ v. omega arith) r w)
 
 pub ends-inside : {u : List ℕ} {e next : ℕ} → Ends u e next → e < length u
 ends-inside (lf h k) = h
@@ -65,13 +92,18 @@ cr-without-lf (a ∷ l) w (suc i) e = cr-without-lf l (λ j. w (suc j)) i e
 
 -- ---- reading at a line
 
-reading-line : (room k : ℕ) (x passed l t : List ℕ) → Without 10 l → reading room k x passed (l ++ 10 ∷ t)
-    ≡ after (judge room (length x) (bare (passed ++ l))) k x t (reading room (k + 1) (x ++ dataOf (recordBytes (bare (passed ++ l)))) [] t)
-unfolding reading
-reading-line room k x passed [] t w = rw (append-nil passed)
-reading-line room k x passed (c ∷ l) t w =
-    let q : (passed ++ c ∷ []) ++ l ≡ passed ++ c ∷ l = append-assoc passed (c ∷ []) l in
-    rw (ne-eqb c 10 (w 0), ← q) (reading-line room k x (passed ++ c ∷ []) l t (λ i. w (suc i)))
+length-without-lf : (l t : List ℕ) → Without 10 l → lineLength (l ++ 10 ∷ t) ≡ length l
+unfolding lineLength
+length-without-lf [] t w = refl
+length-without-lf (c ∷ l) t w = rw (ne-eqb c 10 (w 0), length-without-lf l t (λ i. w (suc i)))
+
+reading-to-lf : (room k : ℕ) (x l t : List ℕ) → Without 10 l → reading room k x [] (l ++ 10 ∷ t)
+    ≡ after (judge room (length x) (bare l)) k x t (reading room (k + 1) (x ++ dataOf (recordBytes (bare l))) [] t)
+reading-to-lf room k x l t w =
+    let n = length-without-lf l t w in
+    let e = reading-line room k x [] (l ++ 10 ∷ t) (omega (arith, n, length-append l (10 ∷ t))) in
+    let d : drop (suc (length l)) (l ++ 10 ∷ t) ≡ t = rw (← add-one (length l)) (drop-append-add l (10 ∷ t) 1) in
+    rw (n, take-append-seam l (10 ∷ t), d) at e
 
 -- a text of which no line is formed
 reading-unformed : (room k : ℕ) (x passed u : List ℕ) → ((p : ℕ) → p < length u → getD u p 0 ≡ 10 → formed (bare (passed ++ take p u)) ≡ false)
@@ -159,14 +191,14 @@ pub reading-record : (room k : ℕ) (x u : List ℕ) (e next : ℕ) → Ends u e
     ≡ after (judge room (length x) (take e u)) k x (drop next u) (reading room (k + 1) (x ++ dataOf (recordBytes (take e u))) [] (drop next u))
 reading-record room k x u e next (lf h w) c a =
     ap (λ (z : List ℕ). reading room k x [] z) (cut u e h ∙ ap (λ (b : ℕ). take e u ++ b ∷ drop (e + 1) u) w)
-    ∙ reading-line room k x [] (take e u) (drop (e + 1) u) (line-without (take e u) 10 c a (omega arith) (omega arith))
+    ∙ reading-to-lf room k x (take e u) (drop (e + 1) u) (line-without (take e u) 10 c a (omega arith) (omega arith))
     ∙ rw (bare-without (take e u) (line-without (take e u) 13 c a (omega arith) (omega arith)))
 reading-record room k x u e next (crlf h r w) c a =
     let s : take (e + 1) u ≡ take e u ++ 13 ∷ [] = rw (add-one e, take-suc u e 0 (omega arith), r) in
     let n : e + 1 + 1 ≡ e + 2 = omega arith in
     let o : Without 10 (take (e + 1) u) = rw s (cr-without-lf (take e u) (line-without (take e u) 10 c a (omega arith) (omega arith))) in
     ap (λ (z : List ℕ). reading room k x [] z) (cut u (e + 1) h ∙ ap (λ (b : ℕ). take (e + 1) u ++ b ∷ drop (e + 1 + 1) u) w)
-    ∙ reading-line room k x [] (take (e + 1) u) (drop (e + 1 + 1) u) o
+    ∙ reading-to-lf room k x (take (e + 1) u) (drop (e + 1 + 1) u) o
     ∙ rw (bare-before-cr, n)
   where
     bare-before-cr : bare (take (e + 1) u) ≡ take e u

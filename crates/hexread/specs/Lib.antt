@@ -1,7 +1,6 @@
 pub mod DigitsLaws
 pub mod PairsLaws
 pub mod BlockLaws
-pub mod TypedLaws
 pub mod RecordLaws
 pub mod GatheredLaws
 pub mod LineLaws

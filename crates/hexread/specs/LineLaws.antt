@@ -1,5 +1,5 @@
--- The first line of a text: where the next one starts, and what reading comes to at it, a law for each way out.
-use mathlib.Core.Path.{_≡_, refl, sym, _∙_}
+-- The first line of a text: what reading comes to at it, a law for each way out.
+use mathlib.Core.Path.{_≡_, sym, _∙_}
 use mathlib.Core.Bool.{true, false}
 use mathlib.Core.List.{List, [], _++_}
 use Prim.Native.Nat.{ℕ, _+_, _*_, _≤_, _<_}
@@ -14,45 +14,13 @@ use Rattle.hextext.specs.declared.Record.the-variants.{Data, End, Fault}
 use Rattle.hextext.specs.Record.{digit, recordBytes, dataOf, formed, judge}
 use Rattle.hextext.specs.RecordLaws.{byteAt, allDigits-at, formed-digits, judge-unformed}
 use Rattle.hextext.specs.Text.{after, reading}
+use Rattle.hexline.specs.Line.{nextLine}
+use Rattle.hexline.specs.TypedLaws.{says-data}
 use Rattle.hexread.specs.declared.line.Step.{Step}
 use Rattle.hexread.specs.declared.line.Step.the-variants.{More, Last, Stop}
 use Rattle.hexread.specs.DigitsLaws.{Pair, pair-byte, pair-small, pair-digits}
-use Rattle.hexread.specs.TypedLaws.{says-data}
 use Rattle.hexread.specs.RecordLaws.{Counted, Taken, formed-by-digits}
-use Rattle.hexread.specs.GatheredLaws.{Ends, lf, crlf, ends-inside, next-inside, next-further, StartsWithRecord, count-of-line, reading-no-record, reading-record}
-
--- ---- where a line ends
-
--- r is the next line's start if a line end stands at e, else 0
-pub record Following (u : List ℕ) (e r : ℕ) : Type 0 where
-  pub found : (r ≡ 0 → ⊥) → Ends u e r
-  pub none : r ≡ 0 → (next : ℕ) → Ends u e next → ⊥
-
-module _ (u : List ℕ) (e : ℕ) where
-  nowhere : (e < length u → getD u e 0 ≡ 10 → ⊥) → (e + 1 < length u → getD u e 0 ≡ 13 → getD u (e + 1) 0 ≡ 10 → ⊥) → Following u e 0
-  nowhere h k = record { found = λ z. absurd (z refl); none = λ z. ends }
-    where
-      ends : (next : ℕ) → Ends u e next → ⊥
-      ends next (lf a w) = h a w
-      ends next (crlf a c w) = k a c w
-
-  pub following-short : length u ≤ e → Following u e 0
-  following-short h = nowhere (λ a w. omega arith) (λ a c w. omega arith)
-
-  pub following-lf : e < length u → getD u e 0 ≡ 10 → Following u e (e + 1)
-  following-lf h w = record { found = λ z. lf h w; none = λ z. absurd (omega arith) }
-
-  pub following-other : (getD u e 0 ≡ 10 → ⊥) → (getD u e 0 ≡ 13 → ⊥) → Following u e 0
-  following-other h k = nowhere (λ a. h) (λ a c w. k c)
-
-  pub following-cut : (getD u e 0 ≡ 10 → ⊥) → length u ≤ e + 1 → Following u e 0
-  following-cut h k = nowhere (λ a. h) (λ a c w. omega arith)
-
-  pub following-cr : (getD u e 0 ≡ 10 → ⊥) → (getD u (e + 1) 0 ≡ 10 → ⊥) → Following u e 0
-  following-cr h k = nowhere (λ a. h) (λ a c. k)
-
-  pub following-crlf : e + 1 < length u → getD u e 0 ≡ 13 → getD u (e + 1) 0 ≡ 10 → Following u e (e + 2)
-  following-crlf h c w = record { found = λ z. crlf h c w; none = λ z. absurd (omega arith) }
+use Rattle.hexread.specs.GatheredLaws.{Ends, ends-found, ends-none, ends-inside, next-inside, next-further, StartsWithRecord, count-of-line, reading-no-record, reading-record}
 
 -- ---- reading at the first line
 
@@ -102,53 +70,53 @@ module _ (u d d′ : List ℕ) (room at : ℕ) where
           let a = allDigits-at (drop 1 (take e u)) i (s .digits) (simp length-drop (omega arith)) in
           rw (getD-drop 1 (take e u) i 0, getD-take e u (1 + i) 0 (omega arith)) at a
 
-  pub stop-end : (n next : ℕ) → Pair u 1 n → n < 256 → Following u (11 + n * 2) next → next ≡ 0 → Stepped (Stop 1) u d d′ room at
-  stop-end n next p h f z = no-record (λ s. f .none z (s .next) (rw (pair-byte u 1 n p h) (s .ends)))
+  pub stop-end : (n next : ℕ) → Pair u 1 n → n < 256 → next ≡ nextLine u (11 + n * 2) → next ≡ 0 → Stepped (Stop 1) u d d′ room at
+  stop-end n next p h f z = no-record (λ s. ends-none u (11 + n * 2) next f z (s .next) (rw (pair-byte u 1 n p h) (s .ends)))
 
-pub line-inside : (u : List ℕ) (e next : ℕ) → Following u e next → (next ≡ 0 → ⊥) → e ≤ length u
-line-inside u e next f z = omega (arith, ends-inside (f .found z))
+pub line-inside : (u : List ℕ) (e next : ℕ) → next ≡ nextLine u e → (next ≡ 0 → ⊥) → e ≤ length u
+line-inside u e next f z = omega (arith, ends-inside (ends-found u e next f z))
 
-pub line-whole : (u : List ℕ) (e next : ℕ) → Following u e next → (next ≡ 0 → ⊥) → e ≡ length (take e u)
+pub line-whole : (u : List ℕ) (e next : ℕ) → next ≡ nextLine u e → (next ≡ 0 → ⊥) → e ≡ length (take e u)
 line-whole u e next f z = sym (length-take-le e u (line-inside u e next f z))
 
 -- the line that the count gives
-abbrev lineOf : (u : List ℕ) (n : ℕ) → List ℕ
-lineOf u n = take (11 + n * 2) u
+abbrev countedLine : (u : List ℕ) (n : ℕ) → List ℕ
+countedLine u n = take (11 + n * 2) u
 
-pub line-counted : (u : List ℕ) (n next : ℕ) → getD u 0 0 ≡ 58 → Pair u 1 n → n < 256 → Following u (11 + n * 2) next → (next ≡ 0 → ⊥)
-    → Counted (lineOf u n) n
+pub line-counted : (u : List ℕ) (n next : ℕ) → getD u 0 0 ≡ 58 → Pair u 1 n → n < 256 → next ≡ nextLine u (11 + n * 2) → (next ≡ 0 → ⊥)
+    → Counted (countedLine u n) n
 line-counted u n next c p h f z =
-    let e = ends-inside (f .found z) in
+    let e = ends-inside (ends-found u (11 + n * 2) next f z) in
     let l = length-take-le (11 + n * 2) u (omega arith) in
     let b = count-of-line u (11 + n * 2) (omega arith) (omega arith) in
-    let q : Pair (lineOf u n) 1 n = record { is = rw (getD-take (11 + n * 2) u 1 0 (omega arith), getD-take (11 + n * 2) u (1 + 1) 0 (omega arith)) (p .is) } in
+    let q : Pair (countedLine u n) 1 n = record { is = rw (getD-take (11 + n * 2) u 1 0 (omega arith), getD-take (11 + n * 2) u (1 + 1) 0 (omega arith)) (p .is) } in
     record {
       long = l;
       colon = getD-take (11 + n * 2) u 0 0 (omega arith) ∙ c;
       counts = pair-byte u 1 n p h ∙ sym b;
       small = h;
-      digits = pair-digits (lineOf u n) 1 n q (omega arith) h;
+      digits = pair-digits (countedLine u n) 1 n q (omega arith) h;
     }
 
 module _ (u d d′ : List ℕ) (room at n next : ℕ) (r : Record) (c : getD u 0 0 ≡ 58) (p : Pair u 1 n) (h : n < 256)
-    (f : Following u (11 + n * 2) next) (z : next ≡ 0 → ⊥) (within : at ≤ room) (roomy : room ≤ length d) (t : Taken r (lineOf u n) d d′ room at) where
+    (f : next ≡ nextLine u (11 + n * 2)) (z : next ≡ 0 → ⊥) (within : at ≤ room) (roomy : room ≤ length d) (t : Taken r (countedLine u n) d d′ room at) where
   ends : Ends u (11 + n * 2) next
-  ends = f .found z
+  ends = ends-found u (11 + n * 2) next f z
 
-  counted : Counted (lineOf u n) n
+  counted : Counted (countedLine u n) n
   counted = line-counted u n next c p h f z
 
-  reads-formed : formed (lineOf u n) ≡ true → (k : ℕ) → reading room k (take at d) [] u
-      ≡ after r k (take at d) (drop next u) (reading room (k + 1) (take at d ++ dataOf (recordBytes (lineOf u n))) [] (drop next u))
+  reads-formed : formed (countedLine u n) ≡ true → (k : ℕ) → reading room k (take at d) [] u
+      ≡ after r k (take at d) (drop next u) (reading room (k + 1) (take at d ++ dataOf (recordBytes (countedLine u n))) [] (drop next u))
   reads-formed g k =
-      let e = reading-record room k (take at d) u (11 + n * 2) next ends (counted .colon) (formed-digits (lineOf u n) g) in
+      let e = reading-record room k (take at d) u (11 + n * 2) next ends (counted .colon) (formed-digits (countedLine u n) g) in
       let l : length (take at d) ≡ at = length-take-le at d (omega arith) in
       rw (← t .judged) at (rw l at e)
 
   pub step-more : (m : ℕ) → r ≡ Data m → Stepped (More m next) u d d′ room at
   unfolding after
   step-more m e =
-      let s = says-data room at (lineOf u n) m (sym (t .judged) ∙ e) in
+      let s = says-data room at (countedLine u n) m (sym (t .judged) ∙ e) in
       record {
         on-more = λ m′ next′ q.
             let q1 : m ≡ m′ = cc in
@@ -163,10 +131,10 @@ module _ (u d d′ : List ℕ) (room at n next : ℕ) (r : Record) (c : getD u 0
         on-stop = λ m′ q. let z : _≡_ {A = ℕ} 0 1 = cc in absurd (omega arith);
       }
 
-  formed-unless-fault : (judge room at (lineOf u n) ≡ Fault 1 → ⊥) → formed (lineOf u n) ≡ true
+  formed-unless-fault : (judge room at (countedLine u n) ≡ Fault 1 → ⊥) → formed (countedLine u n) ≡ true
   formed-unless-fault g =
-      decide (formed (lineOf u n)) (λ (q : formed (lineOf u n) ≡ true). q)
-      (λ (q : formed (lineOf u n) ≡ false). absurd (g (judge-unformed room at (lineOf u n) q)))
+      decide (formed (countedLine u n)) (λ (q : formed (countedLine u n) ≡ true). q)
+      (λ (q : formed (countedLine u n) ≡ false). absurd (g (judge-unformed room at (countedLine u n) q)))
 
   pub step-last : r ≡ End → Stepped (Last next) u d d′ room at
   unfolding after
@@ -187,12 +155,12 @@ module _ (u d d′ : List ℕ) (room at n next : ℕ) (r : Record) (c : getD u 0
   pub step-stop : (m : ℕ) → r ≡ Fault m → Stepped (Stop m) u d d′ room at
   unfolding after
   step-stop m e =
-      decide (formed (lineOf u n))
-      (λ (g : formed (lineOf u n) ≡ true). stepped-stop u d d′ room at m (λ k. rw (reads-formed g k, e)))
-      (λ (g : formed (lineOf u n) ≡ false).
-      let j = judge-unformed room at (lineOf u n) g in
+      decide (formed (countedLine u n))
+      (λ (g : formed (countedLine u n) ≡ true). stepped-stop u d d′ room at m (λ k. rw (reads-formed g k, e)))
+      (λ (g : formed (countedLine u n) ≡ false).
+      let j = judge-unformed room at (countedLine u n) g in
       let q : m ≡ 1 = cc (t .judged) in
       rw q (no-record u d d′ room at (λ s. unformed g s)))
     where
-      unformed : formed (lineOf u n) ≡ false → StartsWithRecord u → ⊥
-      unformed g s = never (rw g at (formed-by-digits (lineOf u n) n counted true (rw (pair-byte u 1 n p h) (s .digits))))
+      unformed : formed (countedLine u n) ≡ false → StartsWithRecord u → ⊥
+      unformed g s = never (rw g at (formed-by-digits (countedLine u n) n counted true (rw (pair-byte u 1 n p h) (s .digits))))

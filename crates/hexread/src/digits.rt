@@ -1,33 +1,8 @@
-ghost use mathlib.Core.Path.{_≡_};
-ghost use mathlib.Core.Bool.{_&&_};
 ghost use Prim.Native.Nat.{_+_, _<_};
-ghost use lib.Dec.{leb};
 ghost use lib.ListN.{length};
 ghost use Rattle.hexread.specs.DigitsLaws.{Valued, Value, Pair};
 
-fn in_range(character: u8, first: u8, last: u8) -> bool
-    ensures { λ r. ⌜ r ≡ (leb first character && leb character last) ⌝ }
-{
-    first <= character && character <= last
-}
-
-// The value of a character as a hexadecimal digit, or 255.
-pub fn digit(character: u8) -> u8
-    ensures { λ r. ⌜ Value 255 character r ⌝ }
-{
-    if in_range(character, 48, 57) {
-        return character - 48;
-    }
-    if in_range(character, 65, 70) {
-        return character - 55;
-    }
-    if in_range(character, 97, 102) {
-        return character - 87;
-    }
-    255
-}
-
-// The value of each character, or 256: a table, for a pair by itself.
+// The value of each character as a hexadecimal digit, or 256: a table, for a pair by itself.
 pub fn values() -> [usize; 256]
     ensures { λ r. ⌜ Valued r ⌝ }
 {
@@ -62,7 +37,7 @@ pub fn values() -> [usize; 256]
 
 fn value(values: &[usize; 256], character: u8) -> usize
     requires { ⌜ Valued (now values) ⌝ }
-    ensures { λ r. ⌜ Value 256 character r ⌝ }
+    ensures { λ r. ⌜ Value character r ⌝ }
 {
     values[character as usize]
 }

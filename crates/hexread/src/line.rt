@@ -1,9 +1,10 @@
 ghost use Prim.Native.Nat.{_≤_};
 ghost use lib.ListN.{length};
 ghost use Rattle.hexread.specs.DigitsLaws.{Valued};
-ghost use Rattle.hexread.specs.LineLaws.{Following, Stepped};
+ghost use Rattle.hexread.specs.LineLaws.{Stepped};
 use crate::digits::pair;
 use crate::record::take_record;
+use hexline::next_line;
 use hextext::Record;
 
 // What the first line of a text is: a record of so many data bytes, or the end record, each with the next line's start,
@@ -12,29 +13,6 @@ pub enum Step {
     More(usize, usize),
     Last(usize),
     Stop(u32),
-}
-
-// Where the next line starts, if a line end stands at `end`, or 0.
-fn next_line(text: &[u8], end: usize) -> usize
-    ensures { λ r. ⌜ Following (now (text .entry)) end r ⌝ }
-{
-    if text.len() <= end {
-        return 0;
-    }
-    if text[end] == b'\n' {
-        return end + 1;
-    }
-    if text[end] != b'\r' {
-        return 0;
-    }
-    let last = end + 1;
-    if text.len() <= last {
-        return 0;
-    }
-    if text[last] != b'\n' {
-        return 0;
-    }
-    end + 2
 }
 
 // The text's first line, its record's data in the image at `at`.

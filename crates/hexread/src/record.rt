@@ -1,25 +1,16 @@
 ghost use mathlib.Core.Path.{_≡_};
 ghost use Prim.Native.Nat.{_+_, _*_, _≤_, max};
 ghost use lib.ListN.{length, take, drop};
-ghost use Rattle.hextext.specs.Record.{typed};
 ghost use Rattle.hexread.specs.DigitsLaws.{Valued};
-ghost use Rattle.hexread.specs.PairsLaws.{Summed, Put, TookData};
+ghost use Rattle.hexread.specs.PairsLaws.{Put, TookData};
 ghost use Rattle.hexread.specs.RecordLaws.{Counted, Taken};
-use crate::digits::digit;
 use crate::digits::pair;
+use hexline::digit;
+use hexline::digits_sum;
+use hexline::greatest;
+use hexline::judge_header;
+use hextext::Header;
 use hextext::Record;
-
-fn greater(one: u8, other: u8) -> u8
-    ensures { λ r. ⌜ r ≡ max one other ⌝ }
-{
-    if one < other { other } else { one }
-}
-
-fn greatest(one: u8, two: u8, three: u8) -> u8
-    ensures { λ r. ⌜ r ≡ max one (max two three) ⌝ }
-{
-    greater(one, greater(two, three))
-}
 
 // Writes the bytes that `count` pairs from character `from` on spell into the image at `to`, all before it looks whether a
 // character was no digit, so that many go at once. Their sum modulo 256, or 256 where one was none.
@@ -83,69 +74,29 @@ fn put_data(line: &[u8], count: usize, image: &mut [u8], to: usize) -> usize
     (sum + rest) % 256
 }
 
-// The same sum with nothing written. `put_data` with a spare image would do, but only what is called once is inlined whole.
-fn data_sum(values: &[usize; 256], line: &[u8], count: usize) -> usize
-    requires { ⌜ Valued (now values) × (9 + count * 2 ≤ length (now line)) ⌝ }
-    ensures { λ r. ⌜ Summed (now (line .entry)) 9 count r ⌝ }
-{
-    let mut sum: usize = 0;
-    let mut i: usize = 0;
-    while i < count {
-        let byte = pair(values, line, 9 + i * 2);
-        if 256 <= byte {
-            return 256;
-        }
-        sum = (sum + byte) % 256;
-        i += 1;
-    }
-    sum
-}
-
 // The sum of the data, and these in the image where they have room; where not, the image stays.
-fn take_data(
-    values: &[usize; 256],
-    line: &[u8],
-    count: usize,
-    image: &mut [u8],
-    to: usize,
-    space: usize,
-) -> usize
-    requires { ⌜ Valued (now values) × (9 + count * 2 ≤ length (now line)) × (to + space ≤ length (now image)) ⌝ }
+fn take_data(line: &[u8], count: usize, image: &mut [u8], to: usize, space: usize) -> usize
+    requires { ⌜ (9 + count * 2 ≤ length (now line)) × (to + space ≤ length (now image)) ⌝ }
     ensures { λ r. ⌜ TookData (now (line .entry)) count (now (image .entry)) (now (image .exit)) to space r ⌝ }
 {
     if count <= space {
         return put_data(line, count, image, to);
     }
-    data_sum(values, line, count)
+    let end = 9 + count * 2;
+    digits_sum(&line[9..end])
 }
 
-// Type, count, address and room of a record whose form and checksum are good.
-fn judged(room: usize, at: usize, count: usize, address: usize, kind: usize) -> Record
-    requires { ⌜ at ≤ room ⌝ }
-    ensures { λ r. ⌜ r ≡ typed room at count address kind ⌝ }
+fn greater(one: usize, other: usize) -> usize
+    ensures { λ r. ⌜ r ≡ max one other ⌝ }
 {
-    if kind == 0 {
-        if count == 0 {
-            return Record::Fault(3);
-        }
-        if address != at {
-            return Record::Fault(3);
-        }
-        if room - at < count {
-            return Record::Fault(4);
-        }
-        return Record::Data(count);
-    }
-    if kind != 1 {
-        return Record::Fault(3);
-    }
-    if count != 0 {
-        return Record::Fault(3);
-    }
-    if address != 0 {
-        return Record::Fault(3);
-    }
-    Record::End
+    if one < other { other } else { one }
+}
+
+// The greatest of five bytes and sums: 256 and above where one is of characters that are no digits.
+fn worst(high: usize, low: usize, kind: usize, sum: usize, check: usize) -> usize
+    ensures { λ r. ⌜ r ≡ max high (max low (max kind (max sum check))) ⌝ }
+{
+    greater(high, greater(low, greater(kind, greater(sum, check))))
 }
 
 // The record of a line that is as long as its count says, judged, its data in the image where they have room.
@@ -161,27 +112,24 @@ pub fn take_record(
     ensures { λ r. ⌜ Taken r (now (line .entry)) (now (image .entry)) (now (image .exit)) room at ⌝ }
 {
     let high = pair(values, line, 3);
-    if 256 <= high {
-        return Record::Fault(1);
-    }
     let low = pair(values, line, 5);
-    if 256 <= low {
-        return Record::Fault(1);
-    }
     let kind = pair(values, line, 7);
-    if 256 <= kind {
-        return Record::Fault(1);
-    }
-    let data = take_data(values, line, count, image, at, room - at);
-    if 256 <= data {
-        return Record::Fault(1);
-    }
+    let data = take_data(line, count, image, at, room - at);
     let check = pair(values, line, 9 + count * 2);
-    if 256 <= check {
+    if 256 <= worst(high, low, kind, data, check) {
         return Record::Fault(1);
     }
     if (count + high + low + kind + data + check) % 256 != 0 {
         return Record::Fault(2);
     }
-    judged(room, at, count, high * 256 + low, kind)
+    let address = high * 256 + low;
+    judge_header(
+        room,
+        at,
+        Header {
+            count,
+            address,
+            kind,
+        },
+    )
 }

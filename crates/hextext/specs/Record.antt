@@ -5,6 +5,9 @@ use Prim.Native.Nat.{ℕ, _+_, _-_, _*_, _%_}
 use lib.Dec.{ltb, leb, eqb}
 use lib.ListN.{length, take, drop, getD}
 use Rattle.laws.specs.Sums.{total}
+use Rattle.hextext.specs.declared.Header.{Header}
+use Rattle.hextext.specs.declared.Line.{Line}
+use Rattle.hextext.specs.declared.Line.the-variants.{Good, Bad}
 use Rattle.hextext.specs.declared.Record.{Record}
 use Rattle.hextext.specs.declared.Record.the-variants.{Data, End, Fault}
 
@@ -51,6 +54,16 @@ formed (c ∷ l) = eqb c 58 && (allDigits l && eqb (length l) ((countOf (bytesOf
 unfoldable pub summed : List ℕ → Bool
 summed bytes = eqb (total bytes % 256) 0
 
+abbrev pub header : (count address type : ℕ) → Header
+header count address type = record { count = count; address = address; kind = type }
+
+-- a line judged by itself: form (1), then checksum (2)
+unfoldable pub lineOf : List ℕ → Line
+lineOf line =
+    cond (formed line)
+    (cond (summed (recordBytes line)) (Good (header (countOf (recordBytes line)) (addressOf (recordBytes line)) (typeOf (recordBytes line)))) (Bad 2))
+    (Bad 1)
+
 -- type, count and address (3), then room (4), with `at` bytes of image before this record
 unfoldable pub typed : (room at count address type : ℕ) → Record
 typed room at count address type =
@@ -58,11 +71,10 @@ typed room at count address type =
     (cond (ltb 0 count && eqb address at) (cond (leb (at + count) room) (Data count) (Fault 4)) (Fault 3))
     (cond (eqb type 1 && (eqb count 0 && eqb address 0)) End (Fault 3))
 
--- a line judged: form (1), checksum (2), then the rest
+unfoldable pub placed : (room at : ℕ) → Line → Record
+placed room at (Good h) = typed room at (h .count) (h .address) (h .kind)
+placed room at (Bad number) = Fault number
+
+-- a line judged in its place: by itself first
 unfoldable pub judge : (room at : ℕ) → List ℕ → Record
-judge room at line =
-    cond (formed line)
-    (cond (summed (recordBytes line))
-    (typed room at (countOf (recordBytes line)) (addressOf (recordBytes line)) (typeOf (recordBytes line)))
-    (Fault 2))
-    (Fault 1)
+judge room at line = placed room at (lineOf line)

@@ -14,7 +14,7 @@ use Rattle.laws.specs.Cases.{split, never, both-left, both-right}
 use Rattle.laws.specs.Lists.{drop-two}
 use Rattle.laws.specs.Sums.{total}
 use Rattle.hextext.specs.declared.Record.the-variants.{Fault}
-use Rattle.hextext.specs.Record.{digit, allDigits, bytesOf, recordBytes, countOf, formed, judge}
+use Rattle.hextext.specs.Record.{digit, allDigits, bytesOf, recordBytes, countOf, formed, lineOf, placed, judge}
 
 -- ---- a digit, by where its character stands
 
@@ -124,7 +124,7 @@ formed-length [] e = never e
 formed-length (c ∷ l) e = omega (arith, eqb-true (length l) _ (both-right (allDigits l) _ (both-right (eqb c 58) _ e)))
 
 pub judge-unformed : (room at : ℕ) (l : List ℕ) → formed l ≡ false → judge room at l ≡ Fault 1
-unfolding judge
+unfolding judge placed lineOf
 judge-unformed room at l e = rw e
 
 -- ---- digits of a line, by their place

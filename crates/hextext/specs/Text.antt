@@ -1,13 +1,18 @@
 -- A HEX text read: its lines judged in order, each a record, until the end record.
 use mathlib.Core.Bool.{cond}
 use mathlib.Core.List.{List, [], _∷_, _++_}
-use Prim.Native.Nat.{ℕ, _+_, _-_, min}
+use Prim.Native.Nat.{ℕ, suc, _+_, _-_, min}
 use lib.Dec.{eqb}
 use lib.ListN.{length, take, getD}
 use Rattle.refusals.specs.Refusals.{Outcome, result, refused, refusal}
 use Rattle.hextext.specs.declared.Record.{Record}
 use Rattle.hextext.specs.declared.Record.the-variants.{Data, End, Fault}
 use Rattle.hextext.specs.Record.{recordBytes, dataOf, judge}
+
+-- how many characters the first line of a text has: those before its first LF, or all
+unfoldable pub lineLength : List ℕ → ℕ
+lineLength [] = 0
+lineLength (c ∷ text) = cond (eqb c 10) 0 (suc (lineLength text))
 
 -- a line without the one CR that may stand directly before its LF
 unfoldable pub bare : List ℕ → List ℕ

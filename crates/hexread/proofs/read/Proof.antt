@@ -3,22 +3,20 @@ use Rattle.refusals.specs.RefusalsLaws.{settled-fills}
 use Rattle.hexread.proofs.read.Statement.{statement}
 use Rattle.hexread.proofs.read.Tie as tie
 
-ruleset laws = (needs, settled-fills)
-
 values-requires : tie.Need-values-requires
-values-requires c κs = search laws
+values-requires c κs = search needs
 
 read-lines-requires : tie.Need-read-lines-requires
-read-lines-requires c κs = search laws
+read-lines-requires c κs = search needs
 
 settled-requires : tie.Need-settled-requires
-settled-requires c κs = search laws
+settled-requires c κs = search needs
 
 same-length : tie.Need-same-length
-same-length c = search laws
+same-length c = search needs
 
 returns : tie.Need-returns
-returns c = search laws
+returns c = search (needs, settled-fills)
 
 pub read-spec : {M : Type 1} → statement M
 read-spec =

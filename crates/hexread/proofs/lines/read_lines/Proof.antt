@@ -5,8 +5,6 @@ use Rattle.hexread.specs.LinesLaws.{Reading, reading-first, reading-stop
 use Rattle.hexread.proofs.lines.read_lines.Statement.{statement}
 use Rattle.hexread.proofs.lines.read_lines.Tie as tie
 
-ruleset laws = (needs, reading-first, reading-stops, reading-done, reading-overrun, next-fits, start-fits, size-fits, start-less, reading-more)
-
 abbrev Inv-loop : tie.InvT-loop
 Inv-loop values text image₀ room start₀ size₀ line₀ image start size line = Reading text image₀ room image start size line
 
@@ -14,76 +12,76 @@ abbrev μ-loop : tie.MeasureT-loop
 μ-loop values text image₀ room start₀ size₀ line₀ image start size line = length text - start
 
 room-in-requires : tie.Need-room-in-requires Inv-loop μ-loop
-room-in-requires c κs = search laws
+room-in-requires c κs = search needs
 
 loop-holds : tie.Need-loop-holds Inv-loop μ-loop
-loop-holds c = search laws
+loop-holds c = search (needs, reading-first)
 
 sub-first-line : tie.Need-sub-first-line Inv-loop μ-loop
-sub-first-line c = search laws
+sub-first-line c = search needs
 
 part-first-line-start : tie.Need-part-first-line-start Inv-loop μ-loop
-part-first-line-start c = search laws
+part-first-line-start c = search needs
 
 part-first-line-end : tie.Need-part-first-line-end Inv-loop μ-loop
-part-first-line-end c = search laws
+part-first-line-end c = search needs
 
 first-line-requires : tie.Need-first-line-requires Inv-loop μ-loop
-first-line-requires c κs = search laws
+first-line-requires c κs = search needs
 
 enum-known-written : tie.Need-enum-known-written Inv-loop μ-loop
-enum-known-written c = search laws
+enum-known-written c = search needs
 
 add-size : tie.Need-add-size Inv-loop μ-loop
-add-size c = search laws
+add-size c = search (needs, size-fits)
 
 add-start : tie.Need-add-start Inv-loop μ-loop
 add-start c = search (needs, start-fits)
 
 add-line : tie.Need-add-line Inv-loop μ-loop
-add-line c = search laws
+add-line c = search needs
 
 loop-less : tie.Need-loop-less Inv-loop μ-loop
-loop-less c = search laws
+loop-less c = search (needs, start-less)
 
 loop-again : tie.Need-loop-again Inv-loop μ-loop
-loop-again c = search laws
+loop-again c = search (needs, reading-more)
 
 enum-known-next : tie.Need-enum-known-next Inv-loop μ-loop
-enum-known-next c = search laws
+enum-known-next c = search needs
 
 add-if1 : tie.Need-add-if1 Inv-loop μ-loop
-add-if1 c = search laws
+add-if1 c = search (needs, next-fits)
 
 same-length : tie.Need-same-length Inv-loop μ-loop
-same-length c = search laws
+same-length c = search needs
 
 returns : tie.Need-returns Inv-loop μ-loop
-returns c = search laws
+returns c = search (needs, reading-done)
 
 add-after : tie.Need-add-after Inv-loop μ-loop
-add-after c = search laws
+add-after c = search needs
 
 same-length-2 : tie.Need-same-length-2 Inv-loop μ-loop
-same-length-2 c = search laws
+same-length-2 c = search needs
 
 returns-2 : tie.Need-returns-2 Inv-loop μ-loop
-returns-2 c = search laws
+returns-2 c = search (needs, reading-overrun)
 
 enum-known-number : tie.Need-enum-known-number Inv-loop μ-loop
-enum-known-number c = search laws
+enum-known-number c = search needs
 
 same-length-3 : tie.Need-same-length-3 Inv-loop μ-loop
-same-length-3 c = search laws
+same-length-3 c = search needs
 
 returns-3 : tie.Need-returns-3 Inv-loop μ-loop
 returns-3 c = reading-refused _ _ _ _ _ _ _ (c .before .before .before .before .before .before .before .before .before .loop .inv) _ _ (search) (c .before .before .before .before .before .first-line .ensures) _ (search)
 
 same-length-4 : tie.Need-same-length-4 Inv-loop μ-loop
-same-length-4 c = search laws
+same-length-4 c = search needs
 
 returns-4 : tie.Need-returns-4 Inv-loop μ-loop
-returns-4 c = search laws
+returns-4 c = search (needs, reading-stops)
 
 pub read-lines-spec : {M : Type 1} → statement M
 read-lines-spec =

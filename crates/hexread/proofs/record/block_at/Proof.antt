@@ -4,8 +4,6 @@ use Rattle.hexread.specs.BlockLaws.{Taking, taking-first, taking-more, t
 use Rattle.hexread.proofs.record.block_at.Statement.{statement}
 use Rattle.hexread.proofs.record.block_at.Tie as tie
 
-ruleset laws = (needs, taking-first, taking-more, taking-end)
-
 abbrev Inv-loop : tie.InvT-loop
 Inv-loop line from characters₀ i₀ characters i = Taking line from characters i
 
@@ -13,28 +11,28 @@ abbrev μ-loop : tie.MeasureT-loop
 μ-loop line from characters₀ i₀ characters i = 32 - i
 
 loop-holds : tie.Need-loop-holds Inv-loop μ-loop
-loop-holds c = search laws
+loop-holds c = search (needs, taking-first)
 
 add-characters : tie.Need-add-characters Inv-loop μ-loop
-add-characters c = search laws
+add-characters c = search needs
 
 shared-slice-read-characters : tie.Need-shared-slice-read-characters Inv-loop μ-loop
-shared-slice-read-characters c = search laws
+shared-slice-read-characters c = search needs
 
 array-write-characters : tie.Need-array-write-characters Inv-loop μ-loop
-array-write-characters c = search laws
+array-write-characters c = search needs
 
 add-i : tie.Need-add-i Inv-loop μ-loop
-add-i c = search laws
+add-i c = search needs
 
 loop-less : tie.Need-loop-less Inv-loop μ-loop
-loop-less c = search laws
+loop-less c = search needs
 
 loop-again : tie.Need-loop-again Inv-loop μ-loop
-loop-again c = search laws
+loop-again c = search (needs, taking-more)
 
 returns : tie.Need-returns Inv-loop μ-loop
-returns c = search laws
+returns c = search (needs, taking-end)
 
 pub block-at-spec : {M : Type 1} → statement M
 block-at-spec =

@@ -6,8 +6,6 @@ use Rattle.hexread.specs.BlockLaws.{put-of-block}
 use Rattle.hexread.proofs.record.put_data.Statement.{statement}
 use Rattle.hexread.proofs.record.put_data.Tie as tie
 
-ruleset laws = (needs, putting-first, putting-block, putting-block-failed, putting-rest)
-
 abbrev Inv-loop : tie.InvT-loop
 Inv-loop line count image₀ to sum₀ i₀ image sum i = Putting line 9 count image₀ image to sum 0 i
 
@@ -15,80 +13,80 @@ abbrev μ-loop : tie.MeasureT-loop
 μ-loop line count image₀ to sum₀ i₀ image sum i = count - i
 
 loop-holds : tie.Need-loop-holds Inv-loop μ-loop
-loop-holds c = search laws
+loop-holds c = search (needs, putting-first)
 
 sub-loop : tie.Need-sub-loop Inv-loop μ-loop
-sub-loop c = search laws
+sub-loop c = search needs
 
 mul-block-at : tie.Need-mul-block-at Inv-loop μ-loop
-mul-block-at c = search laws
+mul-block-at c = search needs
 
 add-block-at : tie.Need-add-block-at Inv-loop μ-loop
-add-block-at c = search laws
+add-block-at c = search needs
 
 block-at-requires : tie.Need-block-at-requires Inv-loop μ-loop
-block-at-requires c κs = search laws
+block-at-requires c κs = search needs
 
 slice-aggregate-put-pairs : tie.Need-slice-aggregate-put-pairs Inv-loop μ-loop
-slice-aggregate-put-pairs c = search laws
+slice-aggregate-put-pairs c = search needs
 
 add-put-pairs : tie.Need-add-put-pairs Inv-loop μ-loop
-add-put-pairs c = search laws
+add-put-pairs c = search needs
 
 put-pairs-requires : tie.Need-put-pairs-requires Inv-loop μ-loop
-put-pairs-requires c κs = search laws
+put-pairs-requires c κs = search needs
 
 same-length : tie.Need-same-length Inv-loop μ-loop
-same-length c = search laws
+same-length c = search needs
 
 returns : tie.Need-returns Inv-loop μ-loop
 returns c =
-    let p = put-of-block (now (c .before .before .before .before .before .before .before .before .before .before .before .args .line)) (9 + c .before .before .before .before .before .before .before .before .loop .i * 2) 16 _ (c .before .before .before .before .before .before .block-at .ensures) (search laws) _ _ _ _ (c .before .before .before .put-pairs .ensures) in
-    search laws
+    let p = put-of-block (now (c .before .before .before .before .before .before .before .before .before .before .before .args .line)) (9 + c .before .before .before .before .before .before .before .before .loop .i * 2) 16 _ (c .before .before .before .before .before .before .block-at .ensures) (search needs) _ _ _ _ (c .before .before .before .put-pairs .ensures) in
+    search (needs, putting-block-failed)
 
 add-sum : tie.Need-add-sum Inv-loop μ-loop
-add-sum c = search laws
+add-sum c = search needs
 
 add-i : tie.Need-add-i Inv-loop μ-loop
-add-i c = search laws
+add-i c = search needs
 
 loop-less : tie.Need-loop-less Inv-loop μ-loop
-loop-less c = search laws
+loop-less c = search needs
 
 loop-again : tie.Need-loop-again Inv-loop μ-loop
 loop-again c =
-    let p = put-of-block (now (c .before .before .before .before .before .before .before .before .before .before .before .args .line)) (9 + c .before .before .before .before .before .before .before .before .loop .i * 2) 16 _ (c .before .before .before .before .before .before .block-at .ensures) (search laws) _ _ _ _ (c .before .before .before .put-pairs .ensures) in
-    search laws
+    let p = put-of-block (now (c .before .before .before .before .before .before .before .before .before .before .before .args .line)) (9 + c .before .before .before .before .before .before .before .before .loop .i * 2) 16 _ (c .before .before .before .before .before .before .block-at .ensures) (search needs) _ _ _ _ (c .before .before .before .put-pairs .ensures) in
+    search (needs, putting-block)
 
 mul-put-pairs : tie.Need-mul-put-pairs Inv-loop μ-loop
-mul-put-pairs c = search laws
+mul-put-pairs c = search needs
 
 add-put-pairs-2 : tie.Need-add-put-pairs-2 Inv-loop μ-loop
-add-put-pairs-2 c = search laws
+add-put-pairs-2 c = search needs
 
 sub-put-pairs : tie.Need-sub-put-pairs Inv-loop μ-loop
-sub-put-pairs c = search laws
+sub-put-pairs c = search needs
 
 add-put-pairs-3 : tie.Need-add-put-pairs-3 Inv-loop μ-loop
-add-put-pairs-3 c = search laws
+add-put-pairs-3 c = search needs
 
 put-pairs-requires-2 : tie.Need-put-pairs-requires-2 Inv-loop μ-loop
-put-pairs-requires-2 c κs = search laws
+put-pairs-requires-2 c κs = search needs
 
 same-length-2 : tie.Need-same-length-2 Inv-loop μ-loop
-same-length-2 c = search laws
+same-length-2 c = search needs
 
 returns-2 : tie.Need-returns-2 Inv-loop μ-loop
-returns-2 c = search laws
+returns-2 c = search (needs, putting-block-failed)
 
 add-result : tie.Need-add-result Inv-loop μ-loop
-add-result c = search laws
+add-result c = search needs
 
 same-length-3 : tie.Need-same-length-3 Inv-loop μ-loop
-same-length-3 c = search laws
+same-length-3 c = search needs
 
 returns-3 : tie.Need-returns-3 Inv-loop μ-loop
-returns-3 c = search laws
+returns-3 c = search (needs, putting-rest)
 
 pub put-data-spec : {M : Type 1} → statement M
 put-data-spec =

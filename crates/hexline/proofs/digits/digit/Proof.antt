@@ -1,39 +1,37 @@
 use borrow.Author.Needs.{needs}
-use Rattle.hexread.specs.DigitsLaws.{range-above, value-decimal, value-upper-case, value-lower-case, value-other}
-use Rattle.hexread.proofs.digits.digit.Statement.{statement}
-use Rattle.hexread.proofs.digits.digit.Tie as tie
-
-ruleset laws = (needs, range-above, value-decimal, value-upper-case, value-lower-case, value-other)
+use Rattle.hexline.specs.DigitsLaws.{range-above, decimal-digit, upper-case-digit, lower-case-digit, no-digit}
+use Rattle.hexline.proofs.digits.digit.Statement.{statement}
+use Rattle.hexline.proofs.digits.digit.Tie as tie
 
 in-range-requires : tie.Need-in-range-requires
-in-range-requires c κs = search laws
+in-range-requires c κs = search needs
 
 sub-result : tie.Need-sub-result
-sub-result c = search laws
+sub-result c = search (needs, range-above)
 
 returns : tie.Need-returns
-returns c = search laws
+returns c = search (needs, decimal-digit)
 
 in-range-requires-2 : tie.Need-in-range-requires-2
-in-range-requires-2 c κs = search laws
+in-range-requires-2 c κs = search needs
 
 sub-result-2 : tie.Need-sub-result-2
-sub-result-2 c = search laws
+sub-result-2 c = search (needs, range-above)
 
 returns-2 : tie.Need-returns-2
-returns-2 c = search laws
+returns-2 c = search (needs, upper-case-digit)
 
 in-range-requires-3 : tie.Need-in-range-requires-3
-in-range-requires-3 c κs = search laws
+in-range-requires-3 c κs = search needs
 
 sub-result-3 : tie.Need-sub-result-3
-sub-result-3 c = search laws
+sub-result-3 c = search (needs, range-above)
 
 returns-3 : tie.Need-returns-3
-returns-3 c = search laws
+returns-3 c = search (needs, lower-case-digit)
 
 returns-4 : tie.Need-returns-4
-returns-4 c = search laws
+returns-4 c = search (needs, no-digit)
 
 pub digit-spec : {M : Type 1} → statement M
 digit-spec =

@@ -1,7 +1,7 @@
 use borrow.Author.Needs.{needs}
 use borrow.Author.Tests.{le-leb, lt-leb}
-use Rattle.hexread.proofs.digits.in_range.Statement.{statement}
-use Rattle.hexread.proofs.digits.in_range.Tie as tie
+use Rattle.hexline.proofs.digits.in_range.Statement.{statement}
+use Rattle.hexline.proofs.digits.in_range.Tie as tie
 
 returns : tie.Need-returns
 returns c = search (needs, le-leb)

@@ -8,9 +8,10 @@ use borrow.Author.Tests.{lt-ltb, le-ltb, le-leb, lt-leb, eq-eqb, ne-eqb, leb-tru
 use lib.Dec.{ltb, leb, eqb}
 use lib.ListN.{length}
 use Rattle.laws.specs.Cases.{positive, both-left, both-right}
-use Rattle.hextext.specs.declared.Record.{Record}
+use Rattle.hextext.specs.declared.Line.{Line}
+use Rattle.hextext.specs.declared.Line.the-variants.{Bad}
 use Rattle.hextext.specs.declared.Record.the-variants.{Data, End, Fault}
-use Rattle.hextext.specs.Record.{recordBytes, countOf, addressOf, typeOf, formed, summed, typed, judge}
+use Rattle.hextext.specs.Record.{recordBytes, countOf, addressOf, typeOf, formed, summed, lineOf, typed, placed, judge}
 use Rattle.hextext.specs.RecordLaws.{formed-length}
 
 -- ---- the answer, by the tests
@@ -27,6 +28,10 @@ module _ (room at count address kind : ℕ) where
   pub typed-full : kind ≡ 0 → (count ≡ 0 → ⊥) → address ≡ at → room - at < count → Fault 4 ≡ typed room at count address kind
   unfolding typed
   typed-full k n a r = sym (simp (eq-eqb kind 0 k, lt-ltb 0 count (positive n), eq-eqb address at a, lt-leb (at + count) room (omega arith)))
+
+  pub typed-past : kind ≡ 0 → (count ≡ 0 → ⊥) → address ≡ at → room < at → Fault 4 ≡ typed room at count address kind
+  unfolding typed
+  typed-past k n a r = sym (simp (eq-eqb kind 0 k, lt-ltb 0 count (positive n), eq-eqb address at a, lt-leb (at + count) room (omega arith)))
 
   pub typed-data : kind ≡ 0 → (count ≡ 0 → ⊥) → address ≡ at → count ≤ room - at → Data count ≡ typed room at count address kind
   unfolding typed
@@ -81,16 +86,17 @@ pub record SaysData (room at : ℕ) (l : List ℕ) (n : ℕ) : Type 0 where
   pub fits : at + n ≤ room
   pub long : length l ≡ 11 + n * 2
 
-unless-fault : (b : Bool) (x : Record) (k n : ℕ) → cond b x (Fault k) ≡ Data n → (b ≡ true) × (x ≡ Data n)
-unless-fault true x k n e = (refl, e)
-unless-fault false x k n e = let z : _≡_ {A = ℕ} 0 1 = cc in absurd (omega arith)
+unless-bad : (room at : ℕ) (b : Bool) (x : Line) (k n : ℕ) → placed room at (cond b x (Bad k)) ≡ Data n → (b ≡ true) × (placed room at x ≡ Data n)
+unfolding placed
+unless-bad room at true x k n e = (refl, e)
+unless-bad room at false x k n e = let z : _≡_ {A = ℕ} 0 1 = cc in absurd (omega arith)
 
 pub says-data : (room at : ℕ) (l : List ℕ) (n : ℕ) → judge room at l ≡ Data n → SaysData room at l n
-unfolding judge typed
+unfolding judge placed lineOf typed
 says-data room at l n e =
     let bytes : List ℕ = recordBytes l in
-    let p = unless-fault (formed l) _ 1 n e in
-    let q = unless-fault (summed bytes) _ 2 n (p .1) in
+    let p = unless-bad room at (formed l) _ 1 n e in
+    let q = unless-bad room at (summed bytes) _ 2 n (p .1) in
     let t = data-cases (eqb (typeOf bytes) 0) (ltb 0 (countOf bytes) && eqb (addressOf bytes) at) (leb (at + countOf bytes) room)
     (eqb (typeOf bytes) 1 && (eqb (countOf bytes) 0 && eqb (addressOf bytes) 0)) (countOf bytes) n (q .1) in
     record {
