@@ -1,11 +1,13 @@
 ghost use mathlib.Core.Bool.{_&&_};
 ghost use mathlib.Core.Path.{_≡_};
+ghost use Prim.Native.Nat.{_<_};
 ghost use lib.Dec.{ltb, eqb};
 ghost use Rattle.image.specs.Contents.{startVerdict, countVerdict, allLines};
-ghost use Rattle.contents.specs.Lines.{fitsAfter};
+ghost use Rattle.contents.specs.Lines.{lineAt, fitsAfter};
 use crate::Line;
 use crate::line_at;
 use crate::line_count;
+use crate::line_in;
 use numbers::fields;
 use refusals::Verdict;
 use refusals::refused;
@@ -43,6 +45,19 @@ pub fn count(contents: &[u8], size: usize) -> Verdict
     Verdict::Accepted
 }
 
+// Where all `count` lines are there, which is the same question for each of them, a line is read with no bounds check. The rest goes
+// by `line_at`, which has callers in other crates too, so that the compiler inlines it nowhere.
+fn line_of(contents: &[u8], line: usize, count: usize) -> Line
+    requires { ⌜ (line < count) × (count < 256) ⌝ }
+    ensures { λ r. ⌜ r ≡ lineAt (now (contents .entry)) line ⌝ }
+{
+    if contents.len() < 2 + 8 * count {
+        return line_at(contents, line);
+    }
+    let place = 2 + 8 * line;
+    line_in(&contents[place..place + 8])
+}
+
 fn line_right(line: Line, previous: u8, offset: usize) -> bool
     ensures { λ r. ⌜ r ≡ fitsAfter line previous offset ⌝ }
 {
@@ -64,7 +79,7 @@ pub fn lines(contents: &[u8], size: usize) -> Verdict
     let mut previous: u8 = 0;
     let mut offset = 2 + 8 * count;
     while i < count {
-        let line = line_at(contents, i);
+        let line = line_of(contents, i, count);
         if !line_right(line, previous, offset) {
             return refused(7, i as u64);
         }

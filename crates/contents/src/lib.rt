@@ -61,30 +61,14 @@ pub fn line_in(bytes: &[u8]) -> Line
     }
 }
 
-// Past 2^60 lines a place has no room in 64 bits, and no slice goes so far.
-fn line_beyond(image: &[u8], line: usize) -> Line
+// Bytes past the end are 0. Past 2^60 lines a place has no room in 64 bits, and no slice goes so far.
+pub fn line_at(image: &[u8], line: usize) -> Line
     ensures { λ r. ⌜ r ≡ lineAt (now (image .entry)) line ⌝ }
 {
     if 1152921504606846976 <= line {
         return line_in(slices::part(image, 0, 0));
     }
     line_in(slices::part(image, 2 + 8 * line, 8))
-}
-
-// Where all the lines are there, which is tested for all of them alike so that a loop tests it once, a line is read with no
-// further bounds check.
-pub fn line_at(image: &[u8], line: usize) -> Line
-    ensures { λ r. ⌜ r ≡ lineAt (now (image .entry)) line ⌝ }
-{
-    let count = line_count(image);
-    if count <= line {
-        return line_beyond(image, line);
-    }
-    if image.len() < 2 + 8 * count {
-        return line_beyond(image, line);
-    }
-    let place = 2 + 8 * line;
-    line_in(&image[place..place + 8])
 }
 
 // Refusals 5 to 7 of an image of this size, by its contents alone: the bodies need not be there.

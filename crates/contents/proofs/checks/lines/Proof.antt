@@ -29,8 +29,8 @@ add-offset c = omega (arith, few c)
 loop-holds : tie.Need-loop-holds Inv-loop μ-loop
 loop-holds c = judging-first _ _ _ (λ i. c .before .shared-slice-known .given i .fits) (c .line-count .ensures)
 
-line-at-requires : tie.Need-line-at-requires Inv-loop μ-loop
-line-at-requires c κs = search laws
+line-of-requires : tie.Need-line-of-requires Inv-loop μ-loop
+line-of-requires c κs = search laws
 
 line-right-requires : tie.Need-line-right-requires Inv-loop μ-loop
 line-right-requires c κs = search laws
@@ -75,7 +75,7 @@ lines-spec =
     mul-offset
     add-offset
     loop-holds
-    line-at-requires
+    line-of-requires
     line-right-requires
     refused-requires
     returns
