@@ -102,7 +102,9 @@ module _ (image : List ℕ) where
       (λ e. sums-judge left (suc i) (omega arith) (none-next (SumWrong image) i below (fails .good e))))
 
   -- the contents are judged by 5 to 7
-  pub contents-gives : Gives (row 5 0 (StartWrong image) ∷ row 6 0 (CountWrong image) ∷ lowest 7 (BreaksLayout image) ∷ []) (contentsVerdict (length image) image)
+  pub contents-gives : Gives
+      (row 5 0 (StartWrong image) ∷ row 6 0 (CountWrong image) ∷ lowest 7 (BreaksLayout image) ∷ [])
+      (contentsVerdict (length image) image)
   unfolding contentsVerdict
   contents-gives =
       let count = row 6 0 (CountWrong image) in

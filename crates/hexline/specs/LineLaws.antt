@@ -144,7 +144,9 @@ module _ (l : List ℕ) where
             rw (whole, eq-eqb (length (drop 1 l) % 2) 0 even, d) at e
 
         all-digits : s < 256 → allDigits (drop 1 l) ≡ true
-        all-digits h = decide (allDigits (drop 1 l)) (λ (d : allDigits (drop 1 l) ≡ true). d) (λ (d : allDigits (drop 1 l) ≡ false). absurd (omega (arith, sum-is false d)))
+        all-digits h =
+            decide (allDigits (drop 1 l)) (λ (d : allDigits (drop 1 l) ≡ true). d)
+            (λ (d : allDigits (drop 1 l) ≡ false). absurd (omega (arith, sum-is false d)))
 
         pub bad-digits : 256 ≤ s → Bad 1 ≡ lineOf l
         unfolding lineOf

@@ -89,7 +89,9 @@ line-counted u n next c p h f z =
     let e = ends-inside (ends-found u (11 + n * 2) next f z) in
     let l = length-take-le (11 + n * 2) u (omega arith) in
     let b = count-of-line u (11 + n * 2) (omega arith) (omega arith) in
-    let q : Pair (countedLine u n) 1 n = record { is = rw (getD-take (11 + n * 2) u 1 0 (omega arith), getD-take (11 + n * 2) u (1 + 1) 0 (omega arith)) (p .is) } in
+    let high = getD-take (11 + n * 2) u 1 0 (omega arith) in
+    let low = getD-take (11 + n * 2) u (1 + 1) 0 (omega arith) in
+    let q : Pair (countedLine u n) 1 n = record { is = rw (high, low) (p .is) } in
     record {
       long = l;
       colon = getD-take (11 + n * 2) u 0 0 (omega arith) ∙ c;

@@ -41,7 +41,11 @@ same-length c = search needs
 
 returns : tie.Need-returns Inv-loop μ-loop
 returns c =
-    let p = put-of-block (now (c .before .before .before .before .before .before .before .before .before .before .before .args .line)) (9 + c .before .before .before .before .before .before .before .before .loop .i * 2) 16 _ (c .before .before .before .before .before .before .block-at .ensures) (search needs) _ _ _ _ (c .before .before .before .put-pairs .ensures) in
+    let put = c .before .before .before in
+    let block = put .before .before .before in
+    let turn = block .before .before in
+    let line = turn .before .before .before .args .line in
+    let p = put-of-block (now line) (9 + turn .loop .i * 2) 16 _ (block .block-at .ensures) (search needs) _ _ _ _ (put .put-pairs .ensures) in
     search (needs, putting-block-failed)
 
 add-sum : tie.Need-add-sum Inv-loop μ-loop
@@ -55,7 +59,11 @@ loop-less c = search needs
 
 loop-again : tie.Need-loop-again Inv-loop μ-loop
 loop-again c =
-    let p = put-of-block (now (c .before .before .before .before .before .before .before .before .before .before .before .args .line)) (9 + c .before .before .before .before .before .before .before .before .loop .i * 2) 16 _ (c .before .before .before .before .before .before .block-at .ensures) (search needs) _ _ _ _ (c .before .before .before .put-pairs .ensures) in
+    let put = c .before .before .before in
+    let block = put .before .before .before in
+    let turn = block .before .before in
+    let line = turn .before .before .before .args .line in
+    let p = put-of-block (now line) (9 + turn .loop .i * 2) 16 _ (block .block-at .ensures) (search needs) _ _ _ _ (put .put-pairs .ensures) in
     search (needs, putting-block)
 
 mul-put-pairs : tie.Need-mul-put-pairs Inv-loop μ-loop
