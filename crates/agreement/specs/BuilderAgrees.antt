@@ -21,8 +21,8 @@ use Rattle.image.specs.Layout.{bodyAt, layoutVerdict}
 use Rattle.image.specs.LayoutLaws.{body-within}
 use Rattle.image.specs.Sections.{sectionsFrom, sections, bodiesOf, imageOf}
 use Rattle.image.specs.RoundTrip.{image-bodies}
-use Rattle.image.specs.Back.{sections-count, image-of-sections}
-use Rattle.builder.specs.declared.Line.{Line}
+use Rattle.image.specs.ImageFromSections.{sections-count, image-of-sections}
+use Rattle.builder.specs.declared.KindAndLength.{KindAndLength}
 use Rattle.builder.specs.Build.{sectionsOf, buildVerdict, buildImage}
 use Rattle.builder.specs.Lines.{linesGiven, kindsOf, lengthsOf, linesOf, noLine}
 use Rattle.builder.specs.BuildLaws.{bodies-whole, lines-counted, lines-again}
@@ -43,7 +43,7 @@ build-refused-exactly size kinds lengths bodies =
     (buildVerdict size (linesGiven kinds lengths) bodies) (builder-gives size kinds lengths bodies) (imageOf (sectionsOf (linesGiven kinds lengths) bodies))
 
 -- any list of lines is given by its own kinds and lengths
-pub lines-refused-exactly : (size : ℕ) (lines : List Line) (bodies : List ℕ) (number detail : ℕ)
+pub lines-refused-exactly : (size : ℕ) (lines : List KindAndLength) (bodies : List ℕ) (number detail : ℕ)
     → (buildImage size lines bodies ≡ refused (refusal number detail)) ↔ FirstGiven (builderTable size (kindsOf lines) (lengthsOf lines) bodies) number detail
 lines-refused-exactly size lines bodies number detail =
     rw (given-again lines) at (build-refused-exactly size (kindsOf lines) (lengthsOf lines) bodies number detail)
@@ -78,14 +78,14 @@ module _ (kinds lengths bodies image : List ℕ) (even : length kinds ≡ length
       let count : lineCount image ≡ length kinds =
       sym (sections-count image) ∙ sym (lines-counted (sections image)) ∙ ap length same ∙ given-counted kinds lengths even in
       let line : (i : ℕ) → i < length kinds
-      → _≡_ {A = Line} (record { kind = kindAt image i; length = lengthAt image i }) (record { kind = getD kinds i 0; length = getD lengths i 0 }) =
-      λ i h. sym (line-is image good i (omega arith)) ∙ ap (λ (l : List Line). getD l i noLine) same ∙ given-line kinds lengths even i in
+      → _≡_ {A = KindAndLength} (record { kind = kindAt image i; length = lengthAt image i }) (record { kind = getD kinds i 0; length = getD lengths i 0 }) =
+      λ i h. sym (line-is image good i (omega arith)) ∙ ap (λ (l : List KindAndLength). getD l i noLine) same ∙ given-line kinds lengths even i in
       record {
         bytes = b;
         good = table;
         count = rw number-same count;
-        kind = λ i h. rw number-same (ap (λ (l : Line). l .kind) (line i h));
-        size = λ i h. rw number-same (ap (λ (l : Line). l .length) (line i h));
+        kind = λ i h. rw number-same (ap (λ (l : KindAndLength). l .kind) (line i h));
+        size = λ i h. rw number-same (ap (λ (l : KindAndLength). l .length) (line i h));
         joined = rw (← count) (bodies-are ∙ joined);
       }
 
@@ -142,7 +142,7 @@ module _ (size : ℕ) (kinds lengths bodies image : List ℕ) where
       (builder-gives size kinds lengths bodies) (imageOf (sectionsOf given bodies)) image in
       (λ made. let none = so .0 made .0 in (none, image-made b none made), λ f. made-so (f .0) (f .1))
 
-module _ (size : ℕ) (lines : List Line) (bodies image : List ℕ) where
+module _ (size : ℕ) (lines : List KindAndLength) (bodies image : List ℕ) where
   pub lines-built-exactly : Bytes bodies
       → (buildImage size lines bodies ≡ result image) ↔ (
       NoneGiven (builderTable size (kindsOf lines) (lengthsOf lines) bodies) × IsImageOf (kindsOf lines) (lengthsOf lines) bodies image)

@@ -16,7 +16,7 @@ use Rattle.paper.specs.Builder.{KindWrong, builderTable}
 use Rattle.laws.specs.Cases.{decide, never, both-left}
 use Rattle.refusals.specs.Refusals.{ask, andThen}
 use Rattle.refusals.specs.VerdictLaws.{asked}
-use Rattle.builder.specs.declared.Line.{Line}
+use Rattle.builder.specs.declared.KindAndLength.{KindAndLength}
 use Rattle.builder.specs.Build.{kindsRise, imageLength, buildVerdict}
 use Rattle.builder.specs.Lines.{paired, linesGiven}
 use Rattle.builder.specs.BuildLaws.{linesRight, lengthsRight}
@@ -88,7 +88,7 @@ module _ (kinds lengths : List ℕ) where
 -- ---- 18, 19, 17
 
 module _ (size : ℕ) (kinds lengths bodies : List ℕ) where
-  abbrev lines : List Line
+  abbrev lines : List KindAndLength
   lines = linesGiven kinds lengths
 
   abbrev LengthsWrong : Type 0

@@ -10,40 +10,40 @@ use Rattle.refusals.specs.declared.Verdict.{Verdict}
 use Rattle.refusals.specs.Refusals.{Outcome, result, checked, ask, andThen}
 use Rattle.image.specs.Contents.{linePlace}
 use Rattle.image.specs.Sections.{Section, imageOf}
-use Rattle.builder.specs.declared.Line.{Line}
+use Rattle.builder.specs.declared.KindAndLength.{KindAndLength}
 
 -- the bodies cut up by the lengths, each under its kind
-unfoldable pub sectionsOf : List Line → (bodies : List ℕ) → List Section
+unfoldable pub sectionsOf : List KindAndLength → (bodies : List ℕ) → List Section
 sectionsOf [] bodies = []
 sectionsOf (l ∷ lines) bodies = record { kind = l .kind; body = take (l .length) bodies } ∷ sectionsOf lines (drop (l .length) bodies)
 
 -- kinds strictly rise above `previous`, and go up to 255
-unfoldable pub kindsRise : (previous : ℕ) → List Line → Bool
+unfoldable pub kindsRise : (previous : ℕ) → List KindAndLength → Bool
 kindsRise previous [] = true
 kindsRise previous (l ∷ lines) = ltb previous (l .kind) && (leb (l .kind) 255 && kindsRise (l .kind) lines)
 
-unfoldable pub lengthsTotal : List Line → ℕ
+unfoldable pub lengthsTotal : List KindAndLength → ℕ
 lengthsTotal [] = 0
 lengthsTotal (l ∷ lines) = l .length + lengthsTotal lines
 
 -- the image's length
-abbrev pub imageLength : List Line → (bodies : List ℕ) → ℕ
+abbrev pub imageLength : List KindAndLength → (bodies : List ℕ) → ℕ
 imageLength lines bodies = linePlace (length lines) + length bodies
 
 -- 18, 19, 17, for a buffer of `size` bytes
-unfoldable pub buildVerdict : (size : ℕ) → List Line → (bodies : List ℕ) → Verdict
+unfoldable pub buildVerdict : (size : ℕ) → List KindAndLength → (bodies : List ℕ) → Verdict
 buildVerdict size lines bodies =
     andThen (ask (leb 1 (length lines) && (leb (length lines) 16 && kindsRise 0 lines)) 18 0)
     (andThen (ask (eqb (lengthsTotal lines) (length bodies) && leb (imageLength lines bodies) 4096) 19 0)
     (ask (leb (imageLength lines bodies) size) 17 0))
 
-unfoldable pub buildImage : (size : ℕ) → List Line → (bodies : List ℕ) → Outcome
+unfoldable pub buildImage : (size : ℕ) → List KindAndLength → (bodies : List ℕ) → Outcome
 buildImage size lines bodies = checked (buildVerdict size lines bodies) (imageOf (sectionsOf lines bodies))
 
 -- an image that the builder makes of bytes
 pub record Built (image : List ℕ) : Type 0 where
   pub size : ℕ
-  pub lines : List Line
+  pub lines : List KindAndLength
   pub bodies : List ℕ
   pub bytes : Bytes bodies
   pub made : buildImage size lines bodies ≡ result image

@@ -15,24 +15,24 @@ use Rattle.refusals.specs.Refusals.{ask}
 use Rattle.refusals.specs.VerdictLaws.{asked, first-passed, next-passed}
 use Rattle.image.specs.Sections.{Section, bodiesOf, Rising}
 use Rattle.image.specs.Find.{bodyOf}
-use Rattle.builder.specs.declared.Line.{Line}
+use Rattle.builder.specs.declared.KindAndLength.{KindAndLength}
 use Rattle.builder.specs.Build.{sectionsOf, kindsRise, lengthsTotal, imageLength, buildVerdict}
 use Rattle.builder.specs.Lines.{linesOf, noLine, bodyGiven}
 
 -- ---- from lines to sections
 
-pub sections-counted : (lines : List Line) (bodies : List ℕ) → length (sectionsOf lines bodies) ≡ length lines
+pub sections-counted : (lines : List KindAndLength) (bodies : List ℕ) → length (sectionsOf lines bodies) ≡ length lines
 unfolding sectionsOf
 sections-counted [] bodies = refl
 sections-counted (l ∷ lines) bodies = ap suc (sections-counted lines (drop (l .length) bodies))
 
-pub bodies-whole : (lines : List Line) (bodies : List ℕ) → lengthsTotal lines ≡ length bodies → bodiesOf (sectionsOf lines bodies) ≡ bodies
+pub bodies-whole : (lines : List KindAndLength) (bodies : List ℕ) → lengthsTotal lines ≡ length bodies → bodiesOf (sectionsOf lines bodies) ≡ bodies
 unfolding bodiesOf sectionsOf lengthsTotal
 bodies-whole [] [] e = refl
 bodies-whole [] (b ∷ bodies) e = absurd (omega arith)
 bodies-whole (l ∷ lines) bodies e = rw (bodies-whole lines (drop (l .length) bodies) (omega (arith, length-drop (l .length) bodies))) (take-append-drop (l .length) bodies)
 
-pub sections-rise : (previous : ℕ) (lines : List Line) (bodies : List ℕ) → kindsRise previous lines ≡ true → Rising previous (sectionsOf lines bodies)
+pub sections-rise : (previous : ℕ) (lines : List KindAndLength) (bodies : List ℕ) → kindsRise previous lines ≡ true → Rising previous (sectionsOf lines bodies)
 unfolding kindsRise sectionsOf
 sections-rise previous [] bodies e = tt
 sections-rise previous (l ∷ lines) bodies e =
@@ -43,7 +43,7 @@ sections-rise previous (l ∷ lines) bodies e =
     )
 
 -- a line's kind stands above `previous`, and so above all kinds before it
-line-rises : (previous : ℕ) (lines : List Line) (i : ℕ) → kindsRise previous lines ≡ true → i < length lines → previous < getD lines i noLine .kind
+line-rises : (previous : ℕ) (lines : List KindAndLength) (i : ℕ) → kindsRise previous lines ≡ true → i < length lines → previous < getD lines i noLine .kind
 unfolding kindsRise
 line-rises previous [] i e h = absurd (omega arith)
 line-rises previous (l ∷ lines) zero e h = ltb-true previous (l .kind) (both-left _ _ e)
@@ -52,20 +52,20 @@ line-rises previous (l ∷ lines) (suc i) e h =
     let first = ltb-true previous (l .kind) (both-left _ _ e) in
     omega arith
 
-pub line-small : (previous : ℕ) (lines : List Line) (i : ℕ) → kindsRise previous lines ≡ true → getD lines i noLine .kind ≤ 255
+pub line-small : (previous : ℕ) (lines : List KindAndLength) (i : ℕ) → kindsRise previous lines ≡ true → getD lines i noLine .kind ≤ 255
 unfolding kindsRise
 line-small previous [] i e = omega arith
 line-small previous (l ∷ lines) zero e = leb-true (l .kind) 255 (both-left _ _ (both-right (ltb previous (l .kind)) _ e))
 line-small previous (l ∷ lines) (suc i) e = line-small (l .kind) lines i (both-right (leb (l .kind) 255) _ (both-right (ltb previous (l .kind)) _ e))
 
-pub line-short : (lines : List Line) (i : ℕ) → getD lines i noLine .length ≤ lengthsTotal lines
+pub line-short : (lines : List KindAndLength) (i : ℕ) → getD lines i noLine .length ≤ lengthsTotal lines
 unfolding lengthsTotal
 line-short [] i = omega arith
 line-short (l ∷ lines) zero = omega arith
 line-short (l ∷ lines) (suc i) = omega (arith, line-short lines i)
 
 -- among the sections a line's kind has the body that the line is given
-pub body-given : (previous : ℕ) (lines : List Line) (bodies : List ℕ) (i : ℕ) → kindsRise previous lines ≡ true → i < length lines
+pub body-given : (previous : ℕ) (lines : List KindAndLength) (bodies : List ℕ) (i : ℕ) → kindsRise previous lines ≡ true → i < length lines
     → bodyOf (getD lines i noLine .kind) (sectionsOf lines bodies) ≡ some (bodyGiven lines bodies i)
 unfolding kindsRise sectionsOf bodyOf lengthsTotal
 body-given previous [] bodies i e h = absurd (omega arith)
@@ -98,7 +98,7 @@ unfolding sectionsOf linesOf bodiesOf
 sections-again [] = refl
 sections-again (s ∷ ss) = rw (take-append-seam (s .body) (bodiesOf ss), drop-append-seam (s .body) (bodiesOf ss), sections-again ss)
 
-pub lines-again : (lines : List Line) (bodies : List ℕ) → lengthsTotal lines ≡ length bodies → linesOf (sectionsOf lines bodies) ≡ lines
+pub lines-again : (lines : List KindAndLength) (bodies : List ℕ) → lengthsTotal lines ≡ length bodies → linesOf (sectionsOf lines bodies) ≡ lines
 unfolding sectionsOf linesOf lengthsTotal
 lines-again [] bodies e = refl
 lines-again (l ∷ lines) bodies e =
@@ -110,13 +110,13 @@ lines-again (l ∷ lines) bodies e =
 -- ---- 18, 19 and 17 passed
 
 -- what 18 asks, and what 19 asks
-abbrev pub linesRight : List Line → Bool
+abbrev pub linesRight : List KindAndLength → Bool
 linesRight lines = leb 1 (length lines) && (leb (length lines) 16 && kindsRise 0 lines)
 
-abbrev pub lengthsRight : List Line → (bodies : List ℕ) → Bool
+abbrev pub lengthsRight : List KindAndLength → (bodies : List ℕ) → Bool
 lengthsRight lines bodies = eqb (lengthsTotal lines) (length bodies) && leb (imageLength lines bodies) 4096
 
-pub record Passed (size : ℕ) (lines : List Line) (bodies : List ℕ) : Type 0 where
+pub record Passed (size : ℕ) (lines : List KindAndLength) (bodies : List ℕ) : Type 0 where
   pub some : 1 ≤ length lines
   pub few : length lines ≤ 16
   pub rise : kindsRise 0 lines ≡ true
@@ -124,7 +124,7 @@ pub record Passed (size : ℕ) (lines : List Line) (bodies : List ℕ) : Type 0 
   pub limit : imageLength lines bodies ≤ 4096
   pub room : imageLength lines bodies ≤ size
 
-module _ (size : ℕ) (lines : List Line) (bodies : List ℕ) where
+module _ (size : ℕ) (lines : List KindAndLength) (bodies : List ℕ) where
   pub passed : buildVerdict size lines bodies ≡ Accepted → Passed size lines bodies
   unfolding buildVerdict
   passed e =

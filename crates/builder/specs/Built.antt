@@ -14,15 +14,15 @@ use Rattle.refusals.specs.VerdictLaws.{checked-result}
 use Rattle.image.specs.Layout.{layoutVerdict}
 use Rattle.image.specs.Sections.{sections, bodiesOf, imageOf, Fit}
 use Rattle.image.specs.RoundTrip.{image-length, image-good, image-bytes, sections-of-image}
-use Rattle.image.specs.Back.{sections-fit, sections-bytes, image-of-sections}
+use Rattle.image.specs.ImageFromSections.{sections-fit, sections-bytes, image-of-sections}
 use Rattle.image.specs.Find.{bodyOf, found}
 use Rattle.image.specs.FindLaws.{found-in-image}
-use Rattle.builder.specs.declared.Line.{Line}
+use Rattle.builder.specs.declared.KindAndLength.{KindAndLength}
 use Rattle.builder.specs.Build.{sectionsOf, buildVerdict, buildImage, Built}
 use Rattle.builder.specs.Lines.{linesOf, noLine, bodyGiven}
 use Rattle.builder.specs.BuildLaws.{line-small, line-short, body-given, Passed, passed, passes, sections-counted, bodies-whole, sections-rise, lines-counted, lines-total, lines-rise, sections-again}
 
-module _ (size : ℕ) (lines : List Line) (bodies image : List ℕ) (made : buildImage size lines bodies ≡ result image) where
+module _ (size : ℕ) (lines : List KindAndLength) (bodies image : List ℕ) (made : buildImage size lines bodies ≡ result image) where
   checked-as : (buildVerdict size lines bodies ≡ Accepted) × (imageOf (sectionsOf lines bodies) ≡ image)
   unfolding buildImage
   checked-as = checked-result (buildVerdict size lines bodies) (imageOf (sectionsOf lines bodies)) image made
@@ -61,7 +61,7 @@ module _ (size : ℕ) (lines : List Line) (bodies image : List ℕ) (made : buil
   pub built-bytes : Bytes bodies → Bytes image
   built-bytes b = rw (← checked-as .1) (image-bytes (sectionsOf lines bodies) fit (rw (bodies-whole lines bodies (kept-to .whole)) b))
 
-  -- No number in an accepted list of lines is too large for a `Line`, so the list can be lent.
+  -- No number in an accepted list of lines is too large for a `KindAndLength`, so the list can be lent.
   pub built-lendable : (i : ℕ) → (getD lines i noLine .kind ≤ 255) × (getD lines i noLine .length ≤ 4096)
   built-lendable i = (line-small 0 lines i (kept-to .rise), omega (arith, line-short lines i, kept-to .whole, kept-to .limit))
 

@@ -10,23 +10,23 @@ use lib.Seq.{take-suc-set, take-all, length-take-le}
 use Rattle.laws.specs.Cases.{split}
 use Rattle.refusals.specs.declared.Filled.{Filled}
 use Rattle.refusals.specs.Refusals.{Fills}
-use Rattle.builder.specs.declared.Line.{Line}
+use Rattle.builder.specs.declared.KindAndLength.{KindAndLength}
 use Rattle.builder.specs.declared.Table.{Table}
 use Rattle.builder.specs.Build.{buildVerdict, buildImage}
 use Rattle.builder.specs.Lines.{paired, linesGiven}
 use Rattle.builder.specs.GivenLaws.{given-at-most, given-counted, given-append}
 
-abbrev tableLines : Table → List Line
+abbrev tableLines : Table → List KindAndLength
 tableLines table = linesGiven (take (table .count) (table .kinds)) (take (table .count) (table .lengths))
 
 -- the table has these lines, or says that they are more than 16
-pub record Gathered (table : Table) (lines : List Line) : Type 0 where
+pub record Gathered (table : Table) (lines : List KindAndLength) : Type 0 where
   pub all : table .count ≤ 16 → tableLines table ≡ lines
   pub many : 16 < table .count → 16 < length lines
 
 -- ---- one line more
 
-module _ (table : Table) (lines : List Line) (line : Line) (h : Gathered table lines) (a : length (table .kinds) ≡ 16) (b : length (table .lengths) ≡ 16) where
+module _ (table : Table) (lines : List KindAndLength) (line : KindAndLength) (h : Gathered table lines) (a : length (table .kinds) ≡ 16) (b : length (table .lengths) ≡ 16) where
   even : table .count ≤ 16 → length (take (table .count) (table .kinds)) ≡ length (take (table .count) (table .lengths))
   even f = length-take-le (table .count) (table .kinds) (omega arith) ∙ sym (length-take-le (table .count) (table .lengths) (omega arith))
 
@@ -62,7 +62,7 @@ gathered-none kinds lengths = record { all = λ _. refl; many = λ m. absurd (om
 -- ---- the whole list
 
 -- a table of the lines that are looked at is one of all lines
-pub gathered-all : (table : Table) (lines : List Line) (n : ℕ) → n ≡ min (length lines) 17 → Gathered table (take n lines) → Gathered table lines
+pub gathered-all : (table : Table) (lines : List KindAndLength) (n : ℕ) → n ≡ min (length lines) 17 → Gathered table (take n lines) → Gathered table lines
 gathered-all table lines n e h =
     split (length lines) 17
     (λ f. subst (Gathered table) (take-all n lines (omega arith)) h)
@@ -78,7 +78,7 @@ gathered-all table lines n e h =
     })
 
 -- none are refused, and so are more than 16
-refused-alike : (size : ℕ) (lines : List Line) (bodies : List ℕ) → 16 < length lines → buildImage size (linesGiven [] []) bodies ≡ buildImage size lines bodies
+refused-alike : (size : ℕ) (lines : List KindAndLength) (bodies : List ℕ) → 16 < length lines → buildImage size (linesGiven [] []) bodies ≡ buildImage size lines bodies
 unfolding buildImage buildVerdict linesGiven paired
 refused-alike size lines bodies h = let some : 1 ≤ length lines = omega arith in rw (le-leb 1 (length lines) some, lt-leb (length lines) 16 h)
 
@@ -93,9 +93,9 @@ module _ (places : List ℕ) (count : ℕ) (h : length places ≡ 16) (f : count
 -- what is built of the table's lines, or of none where there are too many, is what is built of all
 module _ (table : Table) (size : ℕ) (bodies before after : List ℕ) (r : Filled) where
   pub gathered-builds : table .count ≤ 16 → Fills (buildImage size (tableLines table) bodies) before r after
-      → (lines : List Line) → Gathered table lines → Fills (buildImage size lines bodies) before r after
+      → (lines : List KindAndLength) → Gathered table lines → Fills (buildImage size lines bodies) before r after
   gathered-builds f fills lines h = rw (h .all f) at fills
 
   pub gathered-refused : 16 < table .count → Fills (buildImage size (linesGiven [] []) bodies) before r after
-      → (lines : List Line) → Gathered table lines → Fills (buildImage size lines bodies) before r after
+      → (lines : List KindAndLength) → Gathered table lines → Fills (buildImage size lines bodies) before r after
   gathered-refused f fills lines h = rw (refused-alike size lines bodies (h .many f)) at fills

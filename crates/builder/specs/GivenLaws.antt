@@ -11,7 +11,7 @@ use lib.Seq.{drop-cons}
 use Rattle.laws.specs.Cases.{split, decide}
 use Rattle.laws.specs.Sums.{total}
 use Rattle.refusals.specs.Refusals.{refusal, refused}
-use Rattle.builder.specs.declared.Line.{Line}
+use Rattle.builder.specs.declared.KindAndLength.{KindAndLength}
 use Rattle.builder.specs.Build.{lengthsTotal, buildVerdict, buildImage}
 use Rattle.builder.specs.Lines.{paired, linesGiven, kindsOf, lengthsOf, noLine}
 
@@ -53,7 +53,7 @@ paired-line (k ∷ kinds) [] i e = absurd (omega arith)
 paired-line (k ∷ kinds) (l ∷ lengths) zero e = refl
 paired-line (k ∷ kinds) (l ∷ lengths) (suc i) e = paired-line kinds lengths i (omega arith)
 
-paired-append : (kinds lengths : List ℕ) (line : Line) → length kinds ≡ length lengths
+paired-append : (kinds lengths : List ℕ) (line : KindAndLength) → length kinds ≡ length lengths
     → paired (kinds ++ line .kind ∷ []) (lengths ++ line .length ∷ []) ≡ paired kinds lengths ++ line ∷ []
 unfolding paired
 paired-append [] [] line e = refl
@@ -78,7 +78,7 @@ module _ (kinds lengths : List ℕ) where
     pub given-total : lengthsTotal (linesGiven kinds lengths) ≡ total lengths
     given-total = rw (given-paired kinds lengths e) (paired-total kinds lengths e)
 
-    pub given-append : (line : Line) → linesGiven (kinds ++ line .kind ∷ []) (lengths ++ line .length ∷ []) ≡ linesGiven kinds lengths ++ line ∷ []
+    pub given-append : (line : KindAndLength) → linesGiven (kinds ++ line .kind ∷ []) (lengths ++ line .length ∷ []) ≡ linesGiven kinds lengths ++ line ∷ []
     given-append line =
         let longer : length (kinds ++ line .kind ∷ []) ≡ length (lengths ++ line .length ∷ []) = omega (arith, length-append kinds (line .kind ∷ []), length-append lengths (line .length ∷ [])) in
         rw (given-paired kinds lengths e, given-paired (kinds ++ line .kind ∷ []) (lengths ++ line .length ∷ []) longer) (paired-append kinds lengths line e)
@@ -87,24 +87,24 @@ module _ (kinds lengths : List ℕ) where
     given-line i = rw (given-paired kinds lengths e) (paired-line kinds lengths i e)
 
     pub given-kind : (i : ℕ) → getD (linesGiven kinds lengths) i noLine .kind ≡ getD kinds i 0
-    given-kind i = ap (λ (line : Line). line .kind) (given-line i)
+    given-kind i = ap (λ (line : KindAndLength). line .kind) (given-line i)
 
 -- ---- any list of lines is given so
 
-paired-again : (lines : List Line) → paired (kindsOf lines) (lengthsOf lines) ≡ lines
+paired-again : (lines : List KindAndLength) → paired (kindsOf lines) (lengthsOf lines) ≡ lines
 unfolding paired
 paired-again [] = refl
-paired-again (l ∷ lines) = ap (λ (rest : List Line). l ∷ rest) (paired-again lines)
+paired-again (l ∷ lines) = ap (λ (rest : List KindAndLength). l ∷ rest) (paired-again lines)
 
-pub given-again : (lines : List Line) → linesGiven (kindsOf lines) (lengthsOf lines) ≡ lines
+pub given-again : (lines : List KindAndLength) → linesGiven (kindsOf lines) (lengthsOf lines) ≡ lines
 given-again lines =
     let even : length (kindsOf lines) ≡ length (lengthsOf lines) =
-    omega (arith, length-map lines (λ (line : Line). line .kind), length-map lines (λ (line : Line). line .length)) in
+    omega (arith, length-map lines (λ (line : KindAndLength). line .kind), length-map lines (λ (line : KindAndLength). line .length)) in
     given-paired (kindsOf lines) (lengthsOf lines) even ∙ paired-again lines
 
 -- ---- the lines from line i on
 
-abbrev pub linesFrom : (kinds lengths : List ℕ) → ℕ → List Line
+abbrev pub linesFrom : (kinds lengths : List ℕ) → ℕ → List KindAndLength
 linesFrom kinds lengths i = paired (drop i kinds) (drop i lengths)
 
 module _ (kinds lengths : List ℕ) (e : length kinds ≡ length lengths) where

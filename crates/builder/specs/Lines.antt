@@ -5,34 +5,34 @@ use Prim.Native.Nat.{ℕ}
 use lib.Dec.{eqb}
 use lib.ListN.{length, take, drop, getD}
 use Rattle.image.specs.Sections.{Section}
-use Rattle.builder.specs.declared.Line.{Line}
+use Rattle.builder.specs.declared.KindAndLength.{KindAndLength}
 use Rattle.builder.specs.Build.{lengthsTotal}
 
 -- a line for each kind and its length, as far as both lists go
-unfoldable pub paired : (kinds lengths : List ℕ) → List Line
+unfoldable pub paired : (kinds lengths : List ℕ) → List KindAndLength
 paired [] lengths = []
 paired (k ∷ kinds) [] = []
 paired (k ∷ kinds) (l ∷ lengths) = record { kind = k; length = l } ∷ paired kinds lengths
 
 -- line i is kinds[i] with lengths[i]; where they are not equally many there is no line
-unfoldable pub linesGiven : (kinds lengths : List ℕ) → List Line
+unfoldable pub linesGiven : (kinds lengths : List ℕ) → List KindAndLength
 linesGiven kinds lengths = cond (eqb (length kinds) (length lengths)) (paired kinds lengths) []
 
 -- and the kinds and the lengths of lines, as two such lists
-abbrev pub kindsOf : List Line → List ℕ
-kindsOf lines = map (λ (line : Line). line .kind) lines
+abbrev pub kindsOf : List KindAndLength → List ℕ
+kindsOf lines = map (λ (line : KindAndLength). line .kind) lines
 
-abbrev pub lengthsOf : List Line → List ℕ
-lengthsOf lines = map (λ (line : Line). line .length) lines
+abbrev pub lengthsOf : List KindAndLength → List ℕ
+lengthsOf lines = map (λ (line : KindAndLength). line .length) lines
 
-unfoldable pub linesOf : List Section → List Line
+unfoldable pub linesOf : List Section → List KindAndLength
 linesOf [] = []
 linesOf (s ∷ ss) = record { kind = s .kind; length = length (s .body) } ∷ linesOf ss
 
 -- the line past the last
-abbrev pub noLine : Line
+abbrev pub noLine : KindAndLength
 noLine = record { kind = 0; length = 0 }
 
 -- the body of line i begins where those of the lines before it end
-abbrev pub bodyGiven : List Line → (bodies : List ℕ) → (i : ℕ) → List ℕ
+abbrev pub bodyGiven : List KindAndLength → (bodies : List ℕ) → (i : ℕ) → List ℕ
 bodyGiven lines bodies i = take (getD lines i noLine .length) (drop (lengthsTotal (take i lines)) bodies)

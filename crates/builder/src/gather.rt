@@ -2,7 +2,7 @@ ghost use mathlib.Core.Path.{_≡_};
 ghost use mathlib.Core.List.{List, [], _∷_, _++_};
 ghost use Prim.Native.Nat.{min};
 ghost use Rattle.builder.specs.GatherLaws.{Gathered};
-use crate::Line;
+use crate::KindAndLength;
 use crate::Table;
 
 // How many of the lines are looked at: all, or the 17 that are too many.
@@ -23,8 +23,8 @@ pub fn empty() -> Table
 }
 
 // One line more. Of more than 16 it is kept only that there are too many.
-pub fn put(table: Table, line: Line) -> Table
-    ensures { λ r. ⌜ ((lines : List Line) → Gathered table lines → Gathered r (lines ++ line ∷ [])) ⌝ }
+pub fn put(table: Table, line: KindAndLength) -> Table
+    ensures { λ r. ⌜ ((lines : List KindAndLength) → Gathered table lines → Gathered r (lines ++ line ∷ [])) ⌝ }
 {
     let mut more = table;
     let count = more.count;

@@ -22,7 +22,7 @@ mod write;
 mod gather;
 
 // A contents line as the builder is given it.
-pub struct Line {
+pub struct KindAndLength {
     pub kind: u32,
     pub length: usize,
 }
@@ -60,7 +60,7 @@ pub fn build_from_numbers(
 
 // The builder on gathered lines. Of more than 16 none is handed on: either is refused 18.
 fn build_table(table: Table, bodies: &[u8], image: &mut [u8]) -> Filled
-    ensures { λ r. ⌜ ((lines : List Line) → Gathered table lines → Fills (buildImage (length (now (image .entry))) lines (now (bodies .entry))) (now (image .entry)) r (now (image .exit))) ⌝ }
+    ensures { λ r. ⌜ ((lines : List KindAndLength) → Gathered table lines → Fills (buildImage (length (now (image .entry))) lines (now (bodies .entry))) (now (image .entry)) r (now (image .exit))) ⌝ }
 {
     let kinds = table.kinds;
     let lengths = table.lengths;
@@ -72,7 +72,7 @@ fn build_table(table: Table, bodies: &[u8], image: &mut [u8]) -> Filled
 }
 
 // The builder on a lent list of lines, of which no more than 17 are looked at.
-pub fn build(lines: &[Line], bodies: &[u8], image: &mut [u8]) -> Filled
+pub fn build(lines: &[KindAndLength], bodies: &[u8], image: &mut [u8]) -> Filled
     ensures { λ r. ⌜ Fills (buildImage (length (now (image .entry))) (now (lines .entry)) (now (bodies .entry))) (now (image .entry)) r (now (image .exit)) ⌝ }
 {
     let count = gather::few(lines.len());

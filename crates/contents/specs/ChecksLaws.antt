@@ -18,7 +18,7 @@ use Rattle.refusals.specs.Refusals.{refusal, ask}
 use Rattle.refusals.specs.VerdictLaws.{ask-passes, ask-refuses, ask-unpassed, both-asked}
 use Rattle.image.specs.Contents.{lineCount, linePlace, startVerdict, countVerdict, linesVerdict, allLines, contentsVerdict}
 use Rattle.image.specs.ContentsLaws.{Started, start-passes, start-passed, Counted, count-passes, count-passed}
-use Rattle.contents.specs.declared.Line.{Line}
+use Rattle.contents.specs.declared.ContentsLine.{ContentsLine}
 use Rattle.contents.specs.Lines.{lineAt, fitsAfter}
 
 -- ---- 5
@@ -73,7 +73,7 @@ module _ (size : ℕ) (contents : List ℕ) (count : ℕ) (c : count ≡ lineCou
 
 -- ---- 7
 
-module _ (line : Line) (previous offset : ℕ) where
+module _ (line : ContentsLine) (previous offset : ℕ) where
   pub kind-wrong : line .kind ≤ previous → false ≡ fitsAfter line previous offset
   kind-wrong h = rw (le-ltb previous (line .kind) h)
 
@@ -95,7 +95,7 @@ module _ (size : ℕ) (contents : List ℕ) (count : ℕ) where
   judging-first b c = record { rest = rw (sub-zero count, c); few = few-lines contents count b c; passed = omega arith; near = omega arith }
 
   module _ (i previous offset : ℕ) (j : Judging size contents count i previous offset) where
-    module _ (line : Line) (l : line ≡ lineAt contents i) (right : Bool) (t : right ≡ fitsAfter line previous offset) (more : i < count) where
+    module _ (line : ContentsLine) (l : line ≡ lineAt contents i) (right : Bool) (t : right ≡ fitsAfter line previous offset) (more : i < count) where
       pub lines-stop : not right ≡ true → (r : Verdict) → r ≡ Refused (refusal 7 i) → r ≡ allLines size contents
       unfolding linesVerdict
       lines-stop f r e = let wrong = sym (rw l at t) ∙ not-true right f in e ∙ rw (one-left count i more, wrong) at (j .rest)

@@ -12,13 +12,13 @@ use Rattle.numbers.specs.Fields.{numberAt}
 use Rattle.numbers.specs.FieldsLaws.{number-of-halves, number-small, number-within, number-from}
 use Rattle.numbers.specs.Slices.{IsPart}
 use Rattle.image.specs.Contents.{linePlace}
-use Rattle.contents.specs.declared.Line.{Line}
+use Rattle.contents.specs.declared.ContentsLine.{ContentsLine}
 use Rattle.contents.specs.Lines.{lineIn, lineAt}
 
 -- ---- the fields of eight bytes
 
 module _ (bytes : List ℕ) (all : ℕ) (b : Bytes bytes) (e : all ≡ numberAt 8 bytes 0) where
-  abbrev line : Line
+  abbrev line : ContentsLine
   line = lineIn bytes
 
   spelled : all ≡ line .kind + 256 * line .zero + 65536 * line .offset + 4294967296 * line .length + 281474976710656 * line .sum
@@ -61,14 +61,14 @@ part-is-line image i =
     λ w at h. number-within w (drop place image) at 8 h ∙ number-from w image place at in
     rw (field 1 0 (omega arith), field 1 1 (omega arith), field 2 2 (omega arith), field 2 4 (omega arith), field 2 6 (omega arith), add-zero place)
 
-module _ (image : List ℕ) (i : ℕ) {r : Line} where
+module _ (image : List ℕ) (i : ℕ) {r : ContentsLine} where
   -- eight bytes lent by their place
   pub whole-line : (part : List ℕ) → part ≡ take (linePlace i + 8 - linePlace i) (drop (linePlace i) image) → r ≡ lineIn part → r ≡ lineAt image i
   whole-line part p e =
       let eight : linePlace i + 8 - linePlace i ≡ 8 = omega arith in
       e ∙ rw (p, eight) (part-is-line image i)
 
-module _ (image part : RefT (List ℕ)) (i : ℕ) {r : Line} (e : r ≡ lineIn (now part)) where
+module _ (image part : RefT (List ℕ)) (i : ℕ) {r : ContentsLine} (e : r ≡ lineIn (now part)) where
   pub line-of-part : IsPart image part (linePlace i) 8 → r ≡ lineAt (now image) i
   line-of-part p = e ∙ rw (p .holds) (part-is-line (now image) i)
 

@@ -4,7 +4,7 @@ ghost use Prim.Native.Nat.{_<_};
 ghost use lib.Dec.{ltb, eqb};
 ghost use Rattle.image.specs.Contents.{startVerdict, countVerdict, allLines};
 ghost use Rattle.contents.specs.Lines.{lineAt, fitsAfter};
-use crate::Line;
+use crate::ContentsLine;
 use crate::line_at;
 use crate::line_count;
 use crate::line_in;
@@ -47,7 +47,7 @@ pub fn count(contents: &[u8], size: usize) -> Verdict
 
 // Where all `count` lines are there, which is the same question for each of them, a line is read with no bounds check. The rest goes
 // by `line_at`, which has callers in other crates too, so that the compiler inlines it nowhere.
-fn line_of(contents: &[u8], line: usize, count: usize) -> Line
+fn line_of(contents: &[u8], line: usize, count: usize) -> ContentsLine
     requires { ⌜ (line < count) × (count < 256) ⌝ }
     ensures { λ r. ⌜ r ≡ lineAt (now (contents .entry)) line ⌝ }
 {
@@ -58,7 +58,7 @@ fn line_of(contents: &[u8], line: usize, count: usize) -> Line
     line_in(&contents[place..place + 8])
 }
 
-fn line_right(line: Line, previous: u8, offset: usize) -> bool
+fn line_right(line: ContentsLine, previous: u8, offset: usize) -> bool
     ensures { λ r. ⌜ r ≡ fitsAfter line previous offset ⌝ }
 {
     if line.kind <= previous {

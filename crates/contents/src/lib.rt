@@ -11,7 +11,7 @@ use refusals::Verdict;
 mod checks;
 
 // What a contents line says: the kind, a byte that is to be 0, and where the body starts, how long it is, the sum of its bytes.
-pub struct Line {
+pub struct ContentsLine {
     pub kind: u8,
     pub zero: u8,
     pub offset: u16,
@@ -48,11 +48,11 @@ fn eight_bytes(bytes: &[u8]) -> u64
 }
 
 // The line that these bytes begin with; bytes past the end are 0. Whoever lends eight bytes pays for no bounds check.
-pub fn line_in(bytes: &[u8]) -> Line
+pub fn line_in(bytes: &[u8]) -> ContentsLine
     ensures { λ r. ⌜ r ≡ lineIn (now (bytes .entry)) ⌝ }
 {
     let all = eight_bytes(bytes);
-    Line {
+    ContentsLine {
         kind: (all % 256) as u8,
         zero: (all / 256 % 256) as u8,
         offset: (all / 65536 % 65536) as u16,
@@ -62,7 +62,7 @@ pub fn line_in(bytes: &[u8]) -> Line
 }
 
 // Bytes past the end are 0. Past 2^60 lines a place has no room in 64 bits, and no slice goes so far.
-pub fn line_at(image: &[u8], line: usize) -> Line
+pub fn line_at(image: &[u8], line: usize) -> ContentsLine
     ensures { λ r. ⌜ r ≡ lineAt (now (image .entry)) line ⌝ }
 {
     if 1152921504606846976 <= line {

@@ -5,9 +5,9 @@ use Prim.Native.Nat.{ℕ}
 use denote.Ref.{RefT}
 use Rattle.numbers.specs.Slices.{IsPart}
 use Rattle.refusals.specs.declared.Filled.{Filled}
-use Rattle.refusals.specs.declared.told.ToldFilled.{ToldFilled}
+use Rattle.refusals.specs.declared.for_c.FilledForC.{FilledForC}
 use Rattle.refusals.specs.Refusals.{Outcome, Fills}
-use Rattle.refusals.specs.Told.{ToldFills}
+use Rattle.refusals.specs.ForC.{FillsForC}
 use Rattle.image.specs.Find.{Found}
 use Rattle.contracts.specs.Contract.{SamePart}
 
@@ -32,8 +32,8 @@ module _ {outcome : Outcome} {before after after′ : List ℕ} where
   pub fills : {r r′ : Filled} → Fills outcome before r after → Fills outcome before r′ after′ → (r ≡ r′) × (after ≡ after′)
   fills f g = (determined (f .answers) (g .answers), determined (f .holds) (g .holds))
 
-  pub told-fills : {r r′ : ToldFilled} → ToldFills outcome before r after → ToldFills outcome before r′ after′ → (r ≡ r′) × (after ≡ after′)
-  told-fills f g = (determined (f .tells) (g .tells), determined (f .holds) (g .holds))
+  pub fills-for-c : {r r′ : FilledForC} → FillsForC outcome before r after → FillsForC outcome before r′ after′ → (r ≡ r′) × (after ≡ after′)
+  fills-for-c f g = (determined (f .tells) (g .tells), determined (f .holds) (g .holds))
 
 -- The buffer is the first argument, or one of the next.
 pub first : {A N : Type 0} {none : N} {l l′ : List ℕ} → A × (l ≡ l′) → A × (_≡_ {A = List ℕ × N} (l, none) (l′, none))

@@ -21,7 +21,7 @@ use Rattle.panel.proofs as panel
 use Rattle.bjorkneve.proofs as bjorkneve
 use Rattle.display.proofs as display
 use Rattle.contracts.specs.Contract.{Alike, Determines, SamePart}
-use Rattle.contracts.specs.ContractLaws.{determined, answers, is-part, is-found, fills, told-fills, first, next}
+use Rattle.contracts.specs.ContractLaws.{determined, answers, is-part, is-found, fills, fills-for-c, first, next}
 use Rattle.calls.specs.BuildReads as build
 
 -- whole
@@ -90,11 +90,11 @@ refused-determined _ _ _ _ _ _ = answers
 pub refused-at-determined : Determines refusals.refused_at.ended refusals.refused_at.Reads.Learnt
 refused-at-determined _ _ _ _ _ _ = answers
 
-pub tell-verdict-determined : Determines refusals.tell_verdict.ended refusals.tell_verdict.Reads.Learnt
-tell-verdict-determined _ _ _ _ _ _ = answers
+pub verdict-for-c-determined : Determines refusals.verdict_for_c.ended refusals.verdict_for_c.Reads.Learnt
+verdict-for-c-determined _ _ _ _ _ _ = answers
 
-pub tell-filled-determined : Determines refusals.tell_filled.ended refusals.tell_filled.Reads.Learnt
-tell-filled-determined _ _ _ _ _ _ = answers
+pub filled-for-c-determined : Determines refusals.filled_for_c.ended refusals.filled_for_c.Reads.Learnt
+filled-for-c-determined _ _ _ _ _ _ = answers
 
 pub settled-determined : Determines refusals.settled.ended refusals.settled.Reads.Learnt
 settled-determined _ _ _ _ _ _ p q = next (first (determined (p .same) (q .same), determined (p .cleared) (q .cleared)))
@@ -162,8 +162,8 @@ place-of-determined _ _ _ _ _ _ = answers
 pub has-determined : Determines finder.has.ended finder.has.Reads.Learnt
 has-determined _ _ _ _ _ _ = answers
 
-pub tell-place-determined : Determines finder.tell_place.ended finder.tell_place.Reads.Learnt
-tell-place-determined _ _ _ _ _ _ = answers
+pub place-for-c-determined : Determines finder.place_for_c.ended finder.place_for_c.Reads.Learnt
+place-for-c-determined _ _ _ _ _ _ = answers
 
 pub part-at-determined : Alike finder.part_at.ended finder.part_at.Reads.Learnt (λ _. SamePart)
 part-at-determined _ _ _ _ _ _ = is-part
@@ -208,8 +208,8 @@ note-verdict-determined _ _ _ _ _ _ = answers
 pub measured-determined : Determines reading.measured.ended reading.measured.Reads.Learnt
 measured-determined _ _ _ _ _ _ = answers
 
-pub tell-answer-determined : Determines reading.tell_answer.ended reading.tell_answer.Reads.Learnt
-tell-answer-determined _ _ _ _ _ _ = answers
+pub answer-for-c-determined : Determines reading.answer_for_c.ended reading.answer_for_c.Reads.Learnt
+answer-for-c-determined _ _ _ _ _ _ = answers
 
 -- panel
 pub verdict-determined : Determines panel.verdict.ended panel.verdict.Reads.Learnt
@@ -223,13 +223,13 @@ load-determined _ _ _ _ _ _ p q = next (next (first (fills p q)))
 
 -- bjorkneve
 pub bjorkneve-read-determined : Determines bjorkneve.bjorkneve_read.ended bjorkneve.bjorkneve_read.Reads.Learnt
-bjorkneve-read-determined _ _ _ _ _ _ p q = next (first (told-fills p q))
+bjorkneve-read-determined _ _ _ _ _ _ p q = next (first (fills-for-c p q))
 
 pub bjorkneve-write-determined : Determines bjorkneve.bjorkneve_write.ended bjorkneve.bjorkneve_write.Reads.Learnt
-bjorkneve-write-determined _ _ _ _ _ _ p q = next (first (told-fills p q))
+bjorkneve-write-determined _ _ _ _ _ _ p q = next (first (fills-for-c p q))
 
 pub bjorkneve-load-determined : Determines bjorkneve.bjorkneve_load.ended bjorkneve.bjorkneve_load.Reads.Learnt
-bjorkneve-load-determined _ _ _ _ _ _ p q = next (next (first (told-fills p q)))
+bjorkneve-load-determined _ _ _ _ _ _ p q = next (next (first (fills-for-c p q)))
 
 pub bjorkneve-layout-determined : Determines bjorkneve.bjorkneve_layout.ended bjorkneve.bjorkneve_layout.Reads.Learnt
 bjorkneve-layout-determined _ _ _ _ _ _ = answers
@@ -241,7 +241,7 @@ pub bjorkneve-find-determined : Determines bjorkneve.bjorkneve_find.ended bjorkn
 bjorkneve-find-determined _ _ _ _ _ _ = answers
 
 pub bjorkneve-build-determined : Determines bjorkneve.bjorkneve_build.ended bjorkneve.bjorkneve_build.Reads.Learnt
-bjorkneve-build-determined _ _ _ _ _ _ p q = next (next (next (first (told-fills p q))))
+bjorkneve-build-determined _ _ _ _ _ _ p q = next (next (next (first (fills-for-c p q))))
 
 pub bjorkneve-reading-determined : Determines bjorkneve.bjorkneve_reading.ended bjorkneve.bjorkneve_reading.Reads.Learnt
 bjorkneve-reading-determined _ _ _ _ _ _ = answers

@@ -88,11 +88,11 @@ refused-free _ _ _ = refl
 pub refused-at-free : AsksNothing refusals.refused_at.ended refusals.refused_at.Reads.requires
 refused-at-free _ _ _ = refl
 
-pub tell-verdict-free : AsksNothing refusals.tell_verdict.ended refusals.tell_verdict.Reads.requires
-tell-verdict-free _ _ _ = refl
+pub verdict-for-c-free : AsksNothing refusals.verdict_for_c.ended refusals.verdict_for_c.Reads.requires
+verdict-for-c-free _ _ _ = refl
 
-pub tell-filled-free : AsksNothing refusals.tell_filled.ended refusals.tell_filled.Reads.requires
-tell-filled-free _ _ _ = refl
+pub filled-for-c-free : AsksNothing refusals.filled_for_c.ended refusals.filled_for_c.Reads.requires
+filled-for-c-free _ _ _ = refl
 
 pub settled-free : AsksNothing refusals.settled.ended refusals.settled.Reads.requires
 settled-free _ _ _ = refl
@@ -160,8 +160,8 @@ place-of-free _ _ _ = refl
 pub has-free : AsksNothing finder.has.ended finder.has.Reads.requires
 has-free _ _ _ = refl
 
-pub tell-place-free : AsksNothing finder.tell_place.ended finder.tell_place.Reads.requires
-tell-place-free _ _ _ = refl
+pub place-for-c-free : AsksNothing finder.place_for_c.ended finder.place_for_c.Reads.requires
+place-for-c-free _ _ _ = refl
 
 pub part-at-free : AsksNothing finder.part_at.ended finder.part_at.Reads.requires
 part-at-free _ _ _ = refl
@@ -206,8 +206,8 @@ note-verdict-free _ _ _ = refl
 pub measured-free : AsksNothing reading.measured.ended reading.measured.Reads.requires
 measured-free _ _ _ = refl
 
-pub tell-answer-free : AsksNothing reading.tell_answer.ended reading.tell_answer.Reads.requires
-tell-answer-free _ _ _ = refl
+pub answer-for-c-free : AsksNothing reading.answer_for_c.ended reading.answer_for_c.Reads.requires
+answer-for-c-free _ _ _ = refl
 
 -- panel
 pub verdict-free : AsksNothing panel.verdict.ended panel.verdict.Reads.requires

@@ -14,7 +14,7 @@ use Rattle.refusals.specs.declared.Verdict.{Verdict}
 use Rattle.refusals.specs.declared.Verdict.the-variants.{Accepted, Refused}
 use Rattle.image.specs.Contents.{lineCount, kindAt}
 use Rattle.image.specs.Layout.{layoutVerdict}
-use Rattle.contents.specs.declared.Line.{Line}
+use Rattle.contents.specs.declared.ContentsLine.{ContentsLine}
 use Rattle.contents.specs.Lines.{lineAt}
 use Rattle.laws.specs.Loops.{one-left, none-left}
 use Rattle.image.specs.Find.{found, foundOffset, isThere, orElse, Found}
@@ -32,7 +32,7 @@ pub looking-first : (image : List ℕ) (kind count : ℕ) → count ≡ lineCoun
 looking-first image kind count c = record { rest = rw (sub-zero count, c) }
 
 module _ (image : List ℕ) (kind count i : ℕ) (l : Looking image kind count i) where
-  module _ (line : Line) (e : line ≡ lineAt image i) (more : i < count) where
+  module _ (line : ContentsLine) (e : line ≡ lineAt image i) (more : i < count) where
     pub stated-here : line .kind ≡ kind → At (line .offset) (line .length) ≡ statedPlace image kind
     unfolding statedFrom
     stated-here f = rw e (rw (one-left count i more, eq-eqb kind (kindAt image i) (sym f ∙ rw e)) at (l .rest))

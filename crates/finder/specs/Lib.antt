@@ -1,5 +1,5 @@
 pub mod Places
-pub mod Told
+pub mod ForC
 pub mod PlacesLaws
 pub mod FinderLaws
-pub mod ToldLaws
+pub mod ForCLaws

@@ -7,10 +7,10 @@ use numbers::slices;
 use refusals::Verdict;
 
 // The place for C.
-mod told;
+mod for_c;
 
-pub use told::ToldPlace;
-pub use told::tell_place;
+pub use for_c::PlaceForC;
+pub use for_c::place_for_c;
 
 // Where a body stands: its offset in the image, and its length.
 pub enum Place {

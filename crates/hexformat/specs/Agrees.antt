@@ -9,7 +9,7 @@ use Rattle.refusals.specs.Refusals.{result, refused, refusal}
 use Rattle.hextext.specs.Text.{readText}
 use Rattle.hexformat.specs.Format.{GoodText}
 use Rattle.hexformat.specs.Faults.{Refuses}
-use Rattle.hexformat.specs.ComesLaws.{comes, reads-good, reads-refuses, refuses-known}
+use Rattle.hexformat.specs.FormatSaysLaws.{comes, reads-good, reads-refuses, refuses-known}
 
 module _ (size : ℕ) (text : List ℕ) where
   -- a text is read as an image exactly where it is a good text of that image, and the image has room

@@ -13,7 +13,7 @@ use Rattle.hexformat.specs.Faults.{WholeLine}
 use Rattle.hexformat.specs.Damage.{WholeLines, none as no-lines, more}
 use Rattle.hexformat.specs.SpelledLaws.{spelled-small, spelled-length}
 use Rattle.hexformat.specs.ReadingLaws.{same-result, length-bytes, form-whole}
-use Rattle.hexformat.specs.ComesLaws.{reads-good}
+use Rattle.hexformat.specs.FormatSaysLaws.{reads-good}
 use Rattle.hexformat.specs.Agrees.{read-exactly}
 
 -- a text is a good text of one image at most

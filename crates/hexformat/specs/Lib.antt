@@ -11,7 +11,7 @@ pub mod SpelledLaws
 pub mod BareLaws
 pub mod ReadingLaws
 pub mod JudgedLaws
-pub mod ComesLaws
+pub mod FormatSaysLaws
 pub mod WrittenLaws
 pub mod WritingLaws
 pub mod SumLaws

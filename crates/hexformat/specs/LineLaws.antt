@@ -18,7 +18,7 @@ use Rattle.hexformat.specs.Faults.{NoLineFeed, WholeLine}
 use Rattle.hexformat.specs.Damage.{WholeLines, none, more, LastData}
 use Rattle.hexformat.specs.ReadingLaws.{refused-not, same-result, reading-line, reading-form, judge-balanced}
 use Rattle.hexformat.specs.JudgedLaws.{Judged, more as data-judged, end, fault, judged, typed-other}
-use Rattle.hexformat.specs.ComesLaws.{count-small, read-data, read-end, read-last, read-stops, reads-good}
+use Rattle.hexformat.specs.FormatSaysLaws.{count-small, read-data, read-end, read-last, read-stops, reads-good}
 
 -- ---- the reader at a whole line
 

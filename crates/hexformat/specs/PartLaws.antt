@@ -19,7 +19,7 @@ use Rattle.hextext.specs.declared.Record.the-variants.{Data, End, Fault}
 use Rattle.hexformat.specs.Format.{GoodText}
 use Rattle.hexformat.specs.BareLaws.{bare-return, bare-on, bare-last}
 use Rattle.hexformat.specs.ReadingLaws.{refused-not, ended}
-use Rattle.hexformat.specs.ComesLaws.{reads-good}
+use Rattle.hexformat.specs.FormatSaysLaws.{reads-good}
 
 -- ---- formed lines
 

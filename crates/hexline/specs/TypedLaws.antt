@@ -8,8 +8,8 @@ use borrow.Author.Tests.{lt-ltb, le-ltb, le-leb, lt-leb, eq-eqb, ne-eqb, leb-tru
 use lib.Dec.{ltb, leb, eqb}
 use lib.ListN.{length}
 use Rattle.laws.specs.Cases.{positive, both-left, both-right}
-use Rattle.hextext.specs.declared.Line.{Line}
-use Rattle.hextext.specs.declared.Line.the-variants.{Bad}
+use Rattle.hextext.specs.declared.TextLine.{TextLine}
+use Rattle.hextext.specs.declared.TextLine.the-variants.{Bad}
 use Rattle.hextext.specs.declared.Record.the-variants.{Data, End, Fault}
 use Rattle.hextext.specs.Record.{recordBytes, countOf, addressOf, typeOf, formed, summed, lineOf, typed, placed, judge}
 use Rattle.hextext.specs.RecordLaws.{formed-length}
@@ -86,7 +86,7 @@ pub record SaysData (room at : ℕ) (l : List ℕ) (n : ℕ) : Type 0 where
   pub fits : at + n ≤ room
   pub long : length l ≡ 11 + n * 2
 
-unless-bad : (room at : ℕ) (b : Bool) (x : Line) (k n : ℕ) → placed room at (cond b x (Bad k)) ≡ Data n → (b ≡ true) × (placed room at x ≡ Data n)
+unless-bad : (room at : ℕ) (b : Bool) (x : TextLine) (k n : ℕ) → placed room at (cond b x (Bad k)) ≡ Data n → (b ≡ true) × (placed room at x ≡ Data n)
 unfolding placed
 unless-bad room at true x k n e = (refl, e)
 unless-bad room at false x k n e = let z : _≡_ {A = ℕ} 0 1 = cc in absurd (omega arith)

@@ -5,8 +5,8 @@ ghost use Rattle.hexline.specs.LineLaws.{SpelledAt};
 use crate::digits::digit;
 use crate::digits::digits_sum;
 use hextext::Header;
-use hextext::Line;
 use hextext::Record;
+use hextext::TextLine;
 
 // The byte that the two characters at a place spell, 0 where they are not there.
 fn byte_at(line: &[u8], at: usize) -> usize
@@ -24,31 +24,31 @@ fn byte_at(line: &[u8], at: usize) -> usize
 }
 
 // A line without its line end, as a record: form, then checksum.
-pub fn judge_line(line: &[u8]) -> Line
+pub fn judge_line(line: &[u8]) -> TextLine
     ensures { λ r. ⌜ r ≡ lineOf (now (line .entry)) ⌝ }
 {
     if line.len() < 11 {
-        return Line::Bad(1);
+        return TextLine::Bad(1);
     }
     if line[0] != b':' {
-        return Line::Bad(1);
+        return TextLine::Bad(1);
     }
     let count = byte_at(line, 1);
     if line.len() - 11 != count * 2 {
-        return Line::Bad(1);
+        return TextLine::Bad(1);
     }
     let sum = digits_sum(&line[1..]);
     if 256 <= sum {
-        return Line::Bad(1);
+        return TextLine::Bad(1);
     }
     if sum != 0 {
-        return Line::Bad(2);
+        return TextLine::Bad(2);
     }
     let high = byte_at(line, 3);
     let low = byte_at(line, 5);
     let kind = byte_at(line, 7);
     let address = high * 256 + low;
-    Line::Good(Header {
+    TextLine::Good(Header {
         count,
         address,
         kind,

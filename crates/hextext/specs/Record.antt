@@ -6,8 +6,8 @@ use lib.Dec.{ltb, leb, eqb}
 use lib.ListN.{length, take, drop, getD}
 use Rattle.laws.specs.Sums.{total}
 use Rattle.hextext.specs.declared.Header.{Header}
-use Rattle.hextext.specs.declared.Line.{Line}
-use Rattle.hextext.specs.declared.Line.the-variants.{Good, Bad}
+use Rattle.hextext.specs.declared.TextLine.{TextLine}
+use Rattle.hextext.specs.declared.TextLine.the-variants.{Good, Bad}
 use Rattle.hextext.specs.declared.Record.{Record}
 use Rattle.hextext.specs.declared.Record.the-variants.{Data, End, Fault}
 
@@ -58,7 +58,7 @@ abbrev pub header : (count address type : ℕ) → Header
 header count address type = record { count = count; address = address; kind = type }
 
 -- a line judged by itself: form (1), then checksum (2)
-unfoldable pub lineOf : List ℕ → Line
+unfoldable pub lineOf : List ℕ → TextLine
 lineOf line =
     cond (formed line)
     (cond (summed (recordBytes line)) (Good (header (countOf (recordBytes line)) (addressOf (recordBytes line)) (typeOf (recordBytes line)))) (Bad 2))
@@ -71,7 +71,7 @@ typed room at count address type =
     (cond (ltb 0 count && eqb address at) (cond (leb (at + count) room) (Data count) (Fault 4)) (Fault 3))
     (cond (eqb type 1 && (eqb count 0 && eqb address 0)) End (Fault 3))
 
-unfoldable pub placed : (room at : ℕ) → Line → Record
+unfoldable pub placed : (room at : ℕ) → TextLine → Record
 placed room at (Good h) = typed room at (h .count) (h .address) (h .kind)
 placed room at (Bad number) = Fault number
 

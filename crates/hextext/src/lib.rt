@@ -8,7 +8,7 @@ pub struct Header {
 }
 
 // A line by itself.
-pub enum Line {
+pub enum TextLine {
     // a record
     Good(Header),
     // refused by this number

@@ -7,7 +7,7 @@ pub mod LineLaws
 pub mod ContentsLaws
 pub mod LayoutLaws
 pub mod RoundTrip
-pub mod Back
+pub mod ImageFromSections
 pub mod FindLaws
 pub mod OrderLaws
 pub mod MergedLaws

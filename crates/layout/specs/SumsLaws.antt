@@ -15,7 +15,7 @@ use Rattle.refusals.specs.Refusals.{refusal}
 use Rattle.image.specs.Contents.{lineCount, linePlace, kindAt, offsetAt, lengthAt, sumAt, linesVerdict, contentsVerdict}
 use Rattle.image.specs.Layout.{bodyAt, sumsVerdict, allSums, layoutVerdict}
 use Rattle.image.specs.ContentsLaws.{LinePassed, line-passed, contents-passed, bodies-within}
-use Rattle.contents.specs.declared.Line.{Line}
+use Rattle.contents.specs.declared.ContentsLine.{ContentsLine}
 use Rattle.contents.specs.Lines.{lineIn, lineAt}
 use Rattle.contents.specs.LinesLaws.{whole-line}
 
@@ -46,7 +46,7 @@ module _ (image : List ℕ) (count i offset : ℕ) (j : Summed image count i off
   pub line-there : linePlace i + 8 ≤ length image
   line-there = omega (arith, j .room)
 
-  module _ (part : List ℕ) (line : Line) (p : part ≡ take (linePlace i + 8 - linePlace i) (drop (linePlace i) image)) (e : line ≡ lineIn part) where
+  module _ (part : List ℕ) (line : ContentsLine) (p : part ≡ take (linePlace i + 8 - linePlace i) (drop (linePlace i) image)) (e : line ≡ lineIn part) where
     line-is : line ≡ lineAt image i
     line-is = whole-line image i part p e
 

@@ -18,7 +18,7 @@ pub fn number2(bytes: &[u8], place: usize) -> u16
     if bytes.len() - 2 < place {
         return number1(bytes, place) as u16;
     }
-    whole2(bytes, place)
+    number2_unchecked(bytes, place)
 }
 
 pub fn number4(bytes: &[u8], place: usize) -> u32
@@ -26,7 +26,7 @@ pub fn number4(bytes: &[u8], place: usize) -> u32
 {
     if 4 <= bytes.len() {
         if place <= bytes.len() - 4 {
-            return whole4(bytes, place);
+            return number4_unchecked(bytes, place);
         }
     }
     if bytes.len() <= place {
@@ -42,7 +42,7 @@ pub fn number8(bytes: &[u8], place: usize) -> u64
 {
     if 8 <= bytes.len() {
         if place <= bytes.len() - 8 {
-            return whole8(bytes, place);
+            return number8_unchecked(bytes, place);
         }
     }
     if bytes.len() <= place {
@@ -74,13 +74,13 @@ pub fn signed8(bytes: &[u8], place: usize) -> i64
 pub fn number_of_8(bytes: [u8; 8]) -> u64
     ensures { λ r. ⌜ r ≡ numberAt 8 bytes 0 ⌝ }
 {
-    whole8(&bytes, 0)
+    number8_unchecked(&bytes, 0)
 }
 
 pub fn signed_of_8(bytes: [u8; 8]) -> i64
     ensures { λ r. ⌜ r ≡ signedAt 8 bytes 0 ⌝ }
 {
-    signed(whole8(&bytes, 0))
+    signed(number8_unchecked(&bytes, 0))
 }
 
 fn signed(number: u64) -> i64
@@ -94,36 +94,36 @@ fn signed(number: u64) -> i64
 }
 
 // The same where every byte is there: no test, so that a number comes to one load.
-fn whole1(bytes: &[u8], place: usize) -> u8
+fn number1_unchecked(bytes: &[u8], place: usize) -> u8
     requires { ⌜ place < length (now bytes) ⌝ }
     ensures { λ r. ⌜ r ≡ numberAt 1 (now (bytes .entry)) place ⌝ }
 {
     bytes[place]
 }
 
-fn whole2(bytes: &[u8], place: usize) -> u16
+fn number2_unchecked(bytes: &[u8], place: usize) -> u16
     requires { ⌜ place + 2 ≤ length (now bytes) ⌝ }
     ensures { λ r. ⌜ r ≡ numberAt 2 (now (bytes .entry)) place ⌝ }
 {
-    let first = whole1(bytes, place) as u16;
-    let second = whole1(bytes, place + 1) as u16;
+    let first = number1_unchecked(bytes, place) as u16;
+    let second = number1_unchecked(bytes, place + 1) as u16;
     first + 256 * second
 }
 
-fn whole4(bytes: &[u8], place: usize) -> u32
+fn number4_unchecked(bytes: &[u8], place: usize) -> u32
     requires { ⌜ place + 4 ≤ length (now bytes) ⌝ }
     ensures { λ r. ⌜ r ≡ numberAt 4 (now (bytes .entry)) place ⌝ }
 {
-    let first = whole2(bytes, place) as u32;
-    let second = whole2(bytes, place + 2) as u32;
+    let first = number2_unchecked(bytes, place) as u32;
+    let second = number2_unchecked(bytes, place + 2) as u32;
     first + 65536 * second
 }
 
-fn whole8(bytes: &[u8], place: usize) -> u64
+fn number8_unchecked(bytes: &[u8], place: usize) -> u64
     requires { ⌜ place + 8 ≤ length (now bytes) ⌝ }
     ensures { λ r. ⌜ r ≡ numberAt 8 (now (bytes .entry)) place ⌝ }
 {
-    let first = whole4(bytes, place) as u64;
-    let second = whole4(bytes, place + 4) as u64;
+    let first = number4_unchecked(bytes, place) as u64;
+    let second = number4_unchecked(bytes, place + 4) as u64;
     first + 4294967296 * second
 }

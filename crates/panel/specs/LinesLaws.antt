@@ -20,7 +20,7 @@ use Rattle.image.specs.LayoutLaws.{layout-passed, body-within}
 use Rattle.image.specs.Sections.{sectionsFrom, sections}
 use Rattle.image.specs.Find.{bodyOf, isThere}
 use Rattle.image.specs.OrderLaws.{Ascending, sections-ascend, none-below}
-use Rattle.contents.specs.declared.Line.{Line}
+use Rattle.contents.specs.declared.ContentsLine.{ContentsLine}
 use Rattle.contents.specs.Lines.{lineAt}
 use Rattle.panel.specs.Verdict.{presentVerdict, missingVerdict, sectionsVerdict, verdictOf}
 
@@ -35,7 +35,7 @@ module _ (image : List ℕ) (good : layoutVerdict image ≡ Accepted) where
   has-line count line c h =
       record { room = omega (arith, layout-passed image good .contents .counted .room); inside = body-within image good line (omega arith) }
 
-module _ (image : List ℕ) (line : ℕ) (said : Line) (e : said ≡ lineAt image line) where
+module _ (image : List ℕ) (line : ℕ) (said : ContentsLine) (e : said ≡ lineAt image line) where
   pub body-inside : HasLine image line → said .offset + said .length ≤ length image
   body-inside h = rw e (h .inside)
 
@@ -45,14 +45,14 @@ module _ (image : List ℕ) (line : ℕ) (said : Line) (e : said ≡ lineAt imag
 -- ---- the first kinds
 
 -- the lines before this one have kinds 1, 2, 3 and so on, and it and those after it have all others
-pub record Leads (image : List ℕ) (line : ℕ) : Type 0 where
+pub record FirstKindsPresent (image : List ℕ) (line : ℕ) : Type 0 where
   pub good : layoutVerdict image ≡ Accepted
   pub enough : line ≤ lineCount image
   pub bodies : (i : ℕ) → i < line → bodyOf (i + 1) (sections image) ≡ some (bodyAt image i)
   pub others : (kind : ℕ) → line < kind → bodyOf kind (sections image) ≡ bodyOf kind (sectionsFrom image (lineCount image - line) line)
   pub ascends : Ascending line (sectionsFrom image (lineCount image - line) line)
 
-pub none-leads : (image : List ℕ) → layoutVerdict image ≡ Accepted → Leads image 0
+pub none-leads : (image : List ℕ) → layoutVerdict image ≡ Accepted → FirstKindsPresent image 0
 unfolding sections
 none-leads image good =
     record {
@@ -63,7 +63,7 @@ none-leads image good =
       ascends = rw (sub-zero (lineCount image)) (sections-ascend image good);
     }
 
-module _ (line : ℕ) (image : List ℕ) (l : Leads image line) where
+module _ (line : ℕ) (image : List ℕ) (l : FirstKindsPresent image line) where
   next-past : lineCount image ≤ line → bodyOf (line + 1) (sections image) ≡ none
   unfolding bodyOf sectionsFrom
   next-past end = l .others (line + 1) (omega arith) ∙ rw (none-left (lineCount image) line end)
@@ -79,7 +79,7 @@ module _ (line : ℕ) (image : List ℕ) (l : Leads image line) where
         l .others (line + 1) (omega arith)
         ∙ rw (one-left (lineCount image) line more, none-below (kindAt image line) (line + 1) (sectionsFrom image (lineCount image - (line + 1)) (line + 1)) (rises .1) (omega (arith, rises .0)))
 
-    one-leads : kindAt image line ≡ line + 1 → Leads image (line + 1)
+    one-leads : kindAt image line ≡ line + 1 → FirstKindsPresent image (line + 1)
     unfolding bodyOf sectionsFrom
     one-leads e =
         record {
@@ -99,12 +99,12 @@ module _ (line : ℕ) (image : List ℕ) (l : Leads image line) where
   pub no-next : (count : ℕ) → count ≡ lineCount image → count ≤ line → false ≡ isThere (bodyOf (line + 1) (sections image))
   no-next count c end = rw (next-past (omega arith))
 
-  pub next-here : (count : ℕ) (said : Line) → count ≡ lineCount image → line < count → said ≡ lineAt image line
+  pub next-here : (count : ℕ) (said : ContentsLine) → count ≡ lineCount image → line < count → said ≡ lineAt image line
       → eqb (line + 1) (said .kind) ≡ isThere (bodyOf (line + 1) (sections image))
   next-here count said c more k = rw (next-body (omega arith), k) (decide (eqb (line + 1) (kindAt image line)) (λ e. rw e) (λ e. rw e))
 
   module _ (b : Bool) (e : b ≡ isThere (bodyOf (line + 1) (sections image))) (t : not b ≡ false) where
-    pub next-leads : Leads image (line + 1)
+    pub next-leads : FirstKindsPresent image (line + 1)
     next-leads =
         let there : isThere (bodyOf (line + 1) (sections image)) ≡ true = sym e ∙ not-false b t in
         split (lineCount image) line
@@ -118,21 +118,21 @@ module _ (line : ℕ) (image : List ℕ) (l : Leads image line) where
     next-line = has-line image (l .good) (lineCount image) line refl (omega (arith, next-leads .enough))
 
 module _ (image : List ℕ) (good : layoutVerdict image ≡ Accepted) (b : Bool) (e : b ≡ isThere (bodyOf 1 (sections image))) (t : not b ≡ false) where
-  pub first-leads : Leads image 1
+  pub first-leads : FirstKindsPresent image 1
   first-leads = next-leads 0 image (none-leads image good) b e t
 
-  pub second-leads : (c : Bool) → c ≡ isThere (bodyOf 2 (sections image)) → not c ≡ false → Leads image 2
+  pub second-leads : (c : Bool) → c ≡ isThere (bodyOf 2 (sections image)) → not c ≡ false → FirstKindsPresent image 2
   second-leads c f u = next-leads 1 image first-leads c f u
 
-pub first-line : (image : List ℕ) (all line : ℕ) → Leads image all → line < all → HasLine image line
+pub first-line : (image : List ℕ) (all line : ℕ) → FirstKindsPresent image all → line < all → HasLine image line
 first-line image all line l h = has-line image (l .good) (lineCount image) line refl (omega (arith, l .enough))
 
 -- ---- where a panel accepts
 
-present-leads : (line : ℕ) (image : List ℕ) → Leads image line → presentVerdict (line + 1) (sections image) ≡ Accepted → Leads image (line + 1)
+present-leads : (line : ℕ) (image : List ℕ) → FirstKindsPresent image line → presentVerdict (line + 1) (sections image) ≡ Accepted → FirstKindsPresent image (line + 1)
 present-leads line image l e = next-leads line image l true (sym (asked _ 10 (line + 1) e)) refl
 
-pub verdict-leads : (level : ℕ) (image : List ℕ) (v : Verdict) → v ≡ verdictOf level image → v ≡ Accepted → Leads image 3
+pub verdict-leads : (level : ℕ) (image : List ℕ) (v : Verdict) → v ≡ verdictOf level image → v ≡ Accepted → FirstKindsPresent image 3
 unfolding verdictOf sectionsVerdict missingVerdict
 verdict-leads level image v e a =
     let passed : verdictOf level image ≡ Accepted = sym e ∙ a in

@@ -28,10 +28,10 @@ use Rattle.reading.specs.declared.Trimming.the-variants.{Untrimmed, By}
 use Rattle.reading.specs.Measured.{measuredOf}
 use Rattle.panel.specs.Verdict.{verdictOf}
 use Rattle.panel.specs.Reading.{trimmingOf, sectionsReading, readingOf}
-use Rattle.panel.specs.LinesLaws.{Leads, next-leads}
+use Rattle.panel.specs.LinesLaws.{FirstKindsPresent, next-leads}
 
 module _ (image : List ℕ) (b : Bool) (e : b ≡ isThere (bodyOf 4 (sections image))) where
-  pub trimmed-by : (body : List ℕ) (trim : Trim) → Leads image 3 → not b ≡ false → body ≡ bodyAt image 3 → trim ≡ trimOf body
+  pub trimmed-by : (body : List ℕ) (trim : Trim) → FirstKindsPresent image 3 → not b ≡ false → body ≡ bodyAt image 3 → trim ≡ trimOf body
       → By trim ≡ trimmingOf (bodyOf 4 (sections image))
   trimmed-by body trim l t h f = rw (next-leads 3 image l b e t .bodies 3 (omega arith), f, h)
 
@@ -43,7 +43,7 @@ module _ (image : List ℕ) (b : Bool) (e : b ≡ isThere (bodyOf 4 (sections im
       by (some body) f = never (sym f)
 
 -- the bodies of kinds 1, 2, 3 are those of the first three lines
-pub sections-measured : (image : List ℕ) (counts : Counts) → Leads image 3 → {r : Answer} {identity : Identity} {trimming : Trimming} (first second third : List ℕ)
+pub sections-measured : (image : List ℕ) (counts : Counts) → FirstKindsPresent image 3 → {r : Answer} {identity : Identity} {trimming : Trimming} (first second third : List ℕ)
     → r ≡ measuredOf counts identity (setOf second) (gridOf second) (setOf third) (gridOf third) trimming
     → identity ≡ identityOf first → first ≡ bodyAt image 0 → second ≡ bodyAt image 1 → third ≡ bodyAt image 2
     → trimming ≡ trimmingOf (bodyOf 4 (sections image))

@@ -21,7 +21,7 @@ use Rattle.bodies.specs.Identity.{identityVerdict}
 use Rattle.sets.specs.Set.{setVerdict}
 use Rattle.bodies.specs.Trim.{trimVerdict}
 use Rattle.bodies.specs.Note.{noteVerdict}
-use Rattle.contents.specs.declared.Line.{Line}
+use Rattle.contents.specs.declared.ContentsLine.{ContentsLine}
 use Rattle.contents.specs.Lines.{lineAt}
 use Rattle.panel.specs.Levels.{isLevel, knows, mayPass}
 use Rattle.panel.specs.Verdict.{levelVerdict, unknownVerdict, presentVerdict, kindVerdict, bodiesVerdict}
@@ -48,7 +48,7 @@ passing-first verdict image count c = record { rest = rw (sub-zero count, c) }
 -- ---- 9
 
 module _ (image : List ℕ) (level count i : ℕ) (p : Passing (unknownVerdict level) image count i) where
-  module _ (line : Line) (more : i < count) (l : line ≡ lineAt image i) (b : Bool) (e : b ≡ mayPass level (line .kind)) where
+  module _ (line : ContentsLine) (more : i < count) (l : line ≡ lineAt image i) (b : Bool) (e : b ≡ mayPass level (line .kind)) where
     pub passing-more : not b ≡ false → Passing (unknownVerdict level) image count (i + 1)
     unfolding unknownVerdict sectionsFrom
     passing-more t =
@@ -107,7 +107,7 @@ module _ (kind : ℕ) (body : List ℕ) where
   pub as-higher : 4 ≤ kind → (kind ≡ 4 → ⊥) → (kind ≡ 129 → ⊥) → Accepted ≡ kindVerdict kind body
   as-higher h four note = sym (not-judged kind body ((λ e. omega arith), ((λ e. omega arith), ((λ e. omega arith), (four, (note, tt))))))
 
-module _ (image : List ℕ) (level i : ℕ) (line : Line) (l : line ≡ lineAt image i) (b : Bool) (e : b ≡ knows level (line .kind)) where
+module _ (image : List ℕ) (level i : ℕ) (line : ContentsLine) (l : line ≡ lineAt image i) (b : Bool) (e : b ≡ knows level (line .kind)) where
   known : knows level (kindAt image i) ≡ b
   known = sym (rw l at e)
 

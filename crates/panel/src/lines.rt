@@ -5,10 +5,10 @@ ghost use Rattle.image.specs.Layout.{bodyAt};
 ghost use Rattle.image.specs.Sections.{sections};
 ghost use Rattle.image.specs.Find.{bodyOf, isThere};
 ghost use Rattle.contents.specs.Lines.{lineAt};
-ghost use Rattle.panel.specs.LinesLaws.{HasLine, Leads};
-use contents::Line;
+ghost use Rattle.panel.specs.LinesLaws.{HasLine, FirstKindsPresent};
+use contents::ContentsLine;
 
-pub fn stated(image: &[u8], line: usize) -> Line
+pub fn stated(image: &[u8], line: usize) -> ContentsLine
     requires { ⌜ HasLine (now image) line ⌝ }
     ensures { λ r. ⌜ r ≡ lineAt (now (image .entry)) line ⌝ }
 {
@@ -28,7 +28,7 @@ pub fn body(image: &[u8], line: usize) -> &[u8]
 
 // Whether kind line + 1 is there, where the kinds below it are: kinds rise, so that it can stand at this line only.
 pub fn has_next(image: &[u8], line: usize) -> bool
-    requires { ⌜ Leads (now image) line ⌝ }
+    requires { ⌜ FirstKindsPresent (now image) line ⌝ }
     ensures { λ r. ⌜ r ≡ isThere (bodyOf (line + 1) (sections (now (image .entry)))) ⌝ }
 {
     if contents::line_count(image) <= line {

@@ -7,11 +7,11 @@ use refusals::Verdict;
 ghost use mathlib.Core.Path.{_≡_};
 ghost use Rattle.image.specs.Sections.{sections};
 ghost use Rattle.image.specs.Find.{bodyOf};
-ghost use Rattle.panel.specs.LinesLaws.{Leads};
+ghost use Rattle.panel.specs.LinesLaws.{FirstKindsPresent};
 ghost use Rattle.panel.specs.Reading.{trimmingOf, sectionsReading, readingOf};
 
 fn trimming(image: &[u8]) -> Trimming
-    requires { ⌜ Leads (now image) 3 ⌝ }
+    requires { ⌜ FirstKindsPresent (now image) 3 ⌝ }
     ensures { λ r. ⌜ r ≡ trimmingOf (bodyOf 4 (sections (now (image .entry)))) ⌝ }
 {
     if !lines::has_next(image, 3) {
@@ -21,7 +21,7 @@ fn trimming(image: &[u8]) -> Trimming
 }
 
 fn measured(image: &[u8], counts: Counts) -> Answer
-    requires { ⌜ Leads (now image) 3 ⌝ }
+    requires { ⌜ FirstKindsPresent (now image) 3 ⌝ }
     ensures { λ r. ⌜ r ≡ sectionsReading (sections (now (image .entry))) counts ⌝ }
 {
     reading::measured(

@@ -15,7 +15,7 @@ use Rattle.paper.specs.Verdict.{verdictTable}
 use Rattle.paper.specs.Builder.{builderTable, IsImageOf}
 use Rattle.paper.specs.Reading.{Counts, Shows}
 use Rattle.paper.specs.ReadingTable.{readingTable}
-use Rattle.builder.specs.declared.Line.{Line}
+use Rattle.builder.specs.declared.KindAndLength.{KindAndLength}
 use Rattle.hexformat.specs.Format.{GoodText}
 use Rattle.hexformat.specs.Faults.{Refuses}
 use Rattle.hexformat.specs.Writing.{Written}
@@ -42,11 +42,11 @@ abbrev pub AnswersWrite : (image before : List ℕ) → (number detail size : �
 AnswersWrite image before = Fills (FirstGiven (writerTable (length before) image)) (Written image) before
 
 -- the kinds and the lengths of contents lines
-abbrev pub kindsLent : List Line → List ℕ
+abbrev pub kindsLent : List KindAndLength → List ℕ
 kindsLent [] = []
 kindsLent (l ∷ lines) = l .kind ∷ kindsLent lines
 
-abbrev pub lengthsLent : List Line → List ℕ
+abbrev pub lengthsLent : List KindAndLength → List ℕ
 lengthsLent [] = []
 lengthsLent (l ∷ lines) = l .length ∷ lengthsLent lines
 

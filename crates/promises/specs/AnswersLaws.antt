@@ -26,20 +26,20 @@ use Rattle.refusals.specs.declared.Refusal.{Refusal}
 use Rattle.refusals.specs.declared.Verdict.{Verdict}
 use Rattle.refusals.specs.declared.Verdict.the-variants.{Accepted, Refused as NotAccepted}
 use Rattle.refusals.specs.declared.Filled.{Filled}
-use Rattle.refusals.specs.declared.told.ToldFilled.{ToldFilled}
+use Rattle.refusals.specs.declared.for_c.FilledForC.{FilledForC}
 use Rattle.refusals.specs.InNumbers.{verdictNumber, verdictDetail, filledNumber, filledDetail, filledLength}
 use Rattle.refusals.specs.Refusals.{Outcome, result, refused as is-refused, answerTo, Fills as FillsBuffer}
-use Rattle.refusals.specs.Told.{ToldFills}
+use Rattle.refusals.specs.ForC.{FillsForC}
 use Rattle.refusals.specs.VerdictLaws.{checked-refused, checked-result}
 use Rattle.hextext.specs.Text.{readText}
 use Rattle.hextext.specs.Written.{writeImage}
 use Rattle.image.specs.Find.{found as found-in, foundOffset, isThere, Found}
 use Rattle.builder.specs.Build.{buildImage}
-use Rattle.builder.specs.declared.Line.{Line}
+use Rattle.builder.specs.declared.KindAndLength.{KindAndLength}
 use Rattle.builder.specs.Lines.{linesGiven, kindsOf, lengthsOf}
 use Rattle.finder.specs.declared.Place.{Place}
 use Rattle.finder.specs.Places.{placed}
-use Rattle.finder.specs.Told.{placeTold}
+use Rattle.finder.specs.ForC.{placeForC}
 use Rattle.reading.specs.declared.Counts.{Counts}
 use Rattle.reading.specs.declared.Answer.{Answer}
 use Rattle.reading.specs.declared.Answer.the-variants.{Shown, Refused}
@@ -84,7 +84,7 @@ module _ (o : Outcome) {R : (number detail : ℕ) → Type 0} {P : List ℕ → 
       by (is-refused r) e = let given = refuses r e in rw (f .answers, e) (refused (given .0) (given .1) refl (rw e at (f .holds)))
       by (result x) e = rw (f .answers, e) (filled x (results x e) refl refl refl (rw e at (f .holds)))
 
-  pub told-answer : (told : ToldFilled) → ToldFills o before told after → Fills R P before (told .number) (told .detail) (told .length) after
+  pub told-answer : (told : FilledForC) → FillsForC o before told after → Fills R P before (told .number) (told .detail) (told .length) after
   told-answer told f = rw (f .tells) (fills-answer (answerTo o) (record { answers = refl; holds = f .holds }))
 
 module _ (size : ℕ) (text : List ℕ) where
@@ -115,11 +115,11 @@ module _ (size : ℕ) (kinds lengths bodies : List ℕ) where
   build-results b image e = built-exactly size kinds lengths bodies image b .0 e .1
 
 -- the builder's own kinds and lengths of lines are these
-pub kinds-lent : (lines : List Line) → kindsLent lines ≡ kindsOf lines
+pub kinds-lent : (lines : List KindAndLength) → kindsLent lines ≡ kindsOf lines
 kinds-lent [] = refl
 kinds-lent (l ∷ lines) = ap (λ (ks : List ℕ). l .kind ∷ ks) (kinds-lent lines)
 
-pub lengths-lent : (lines : List Line) → lengthsLent lines ≡ lengthsOf lines
+pub lengths-lent : (lines : List KindAndLength) → lengthsLent lines ≡ lengthsOf lines
 lengths-lent [] = refl
 lengths-lent (l ∷ lines) = ap (λ (ls : List ℕ). l .length ∷ ls) (lengths-lent lines)
 
@@ -156,11 +156,11 @@ module _ (level : ℕ) (text before : List ℕ) where
 -- ---- a kind found
 
 pub find-answer : (image : List ℕ) (kind : ℕ) (place : Place) → place ≡ placed (foundOffset image kind) (found-in image kind)
-    → AnswersFind image kind (placeTold place .there) (placeTold place .offset) (placeTold place .length)
+    → AnswersFind image kind (placeForC place .there) (placeForC place .offset) (placeForC place .length)
 find-answer image kind place e = rw e (by (foundOffset image kind) (found-in image kind) refl refl)
   where
     by : (o : Option ℕ) (b : Option (List ℕ)) → foundOffset image kind ≡ o → found-in image kind ≡ b
-        → AnswersFind image kind (placeTold (placed o b) .there) (placeTold (placed o b) .offset) (placeTold (placed o b) .length)
+        → AnswersFind image kind (placeForC (placed o b) .there) (placeForC (placed o b) .offset) (placeForC (placed o b) .length)
     by (some offset) (some body) f g =
         let at = offset-exactly image kind offset .0 f in
         let has = found-exactly image kind body .0 g in

@@ -26,7 +26,7 @@ use Rattle.image.specs.Layout.{layoutVerdict}
 use Rattle.builder.specs.Build.{buildImage}
 use Rattle.builder.specs.Lines.{linesGiven, kindsOf, lengthsOf}
 use Rattle.builder.specs.GivenLaws.{given-again}
-use Rattle.finder.specs.Told.{placeTold}
+use Rattle.finder.specs.ForC.{placeForC}
 use Rattle.sets.specs.Set.{setVerdict}
 use Rattle.bodies.specs.Identity.{identityVerdict}
 use Rattle.bodies.specs.Trim.{trimVerdict}
@@ -150,7 +150,7 @@ pub find-answers : EveryCall finder.find.ended finder.find.Reads.Learnt (λ call
 find-answers call r b learnt = finds-part (call .arguments .0) r (call .arguments .1 .0) learnt
 
 pub place-answers : EveryCall finder.place_of.ended finder.place_of.Reads.Learnt
-    (λ call r b. AnswersFind (now (call .arguments .0)) (call .arguments .1 .0) (placeTold r .there) (placeTold r .offset) (placeTold r .length))
+    (λ call r b. AnswersFind (now (call .arguments .0)) (call .arguments .1 .0) (placeForC r .there) (placeForC r .offset) (placeForC r .length))
 place-answers call r b learnt = find-answer (now (call .arguments .0)) (call .arguments .1 .0) r learnt
 
 pub bjorkneve-find-answers : EveryCall bjorkneve.bjorkneve_find.ended bjorkneve.bjorkneve_find.Reads.Learnt

@@ -13,13 +13,13 @@ use Rattle.laws.specs.Cases.{decide}
 use Rattle.refusals.specs.declared.Verdict.{Verdict}
 use Rattle.refusals.specs.declared.Verdict.the-variants.{Accepted, Refused as NotAccepted}
 use Rattle.refusals.specs.Refusals.{refusal}
-use Rattle.refusals.specs.Told.{verdictTold}
+use Rattle.refusals.specs.ForC.{verdictForC}
 use Rattle.image.specs.Sections.{Section, sections}
 use Rattle.image.specs.Find.{bodyOf, isThere}
 use Rattle.reading.specs.declared.Counts.{Counts}
 use Rattle.reading.specs.declared.Reading.{Reading}
 use Rattle.reading.specs.declared.Answer.the-variants.{Shown, Refused}
-use Rattle.reading.specs.Told.{answerTold}
+use Rattle.reading.specs.ForC.{answerForC}
 use Rattle.panel.specs.Verdict.{verdictOf}
 use Rattle.panel.specs.Reading.{sectionsReading, afterVerdict, readingOf}
 use Rattle.agreement.specs.KindsAgree.{there-passes}
@@ -65,15 +65,15 @@ module _ (level : ℕ) (image : List ℕ) (further : List Section) (anew : List 
 
     -- In the numbers that C gets: 9, that kind, and every value 0.
     pub low-told : (counts : Counts)
-        → (verdictTold (verdictOf level anew) ≡ record { number = 9; detail = kind })
-        × (answerTold (readingOf level anew counts) ≡ record { number = 9; detail = kind; pressure = pos 0; temperature = pos 0; unit = 0; mark = 0 })
-    low-told counts = (ap verdictTold low-verdict, ap answerTold (low-reading counts))
+        → (verdictForC (verdictOf level anew) ≡ record { number = 9; detail = kind })
+        × (answerForC (readingOf level anew counts) ≡ record { number = 9; detail = kind; pressure = pos 0; temperature = pos 0; unit = 0; mark = 0 })
+    low-told counts = (ap verdictForC low-verdict, ap answerForC (low-reading counts))
 
   -- If all are 128 or above, C gets the same numbers as before.
   pub high-told : AllHigh further → (counts : Counts)
-      → (verdictTold (verdictOf level anew) ≡ verdictTold (verdictOf level image))
-      × (answerTold (readingOf level anew counts) ≡ answerTold (readingOf level image counts))
-  high-told high counts = (ap verdictTold (high-verdict high), ap answerTold (high-reading high counts))
+      → (verdictForC (verdictOf level anew) ≡ verdictForC (verdictOf level image))
+      × (answerForC (readingOf level anew counts) ≡ answerForC (readingOf level image counts))
+  high-told high counts = (ap verdictForC (high-verdict high), ap answerForC (high-reading high counts))
 
 -- There is no third case: all new kinds are 128 or above, or there is a lowest below 128.
 pub high-or-low : (further : List Section) → AllHigh further ⊎ ((kind : ℕ) × LowestLow further kind)
@@ -163,8 +163,8 @@ module _ (image : List ℕ) (counts : Counts) (reading : Reading) (shown : readi
   )
 
   -- In the numbers that C gets: the same as level 2's, or 9, 4 and every value 0.
-  pub levels-told : (answerTold (readingOf 1 image counts) ≡ answerTold (readingOf 2 image counts))
+  pub levels-told : (answerForC (readingOf 1 image counts) ≡ answerForC (readingOf 2 image counts))
       ⊎ (HasKind image 4
-      × (answerTold (readingOf 1 image counts) ≡ record { number = 9; detail = 4; pressure = pos 0; temperature = pos 0; unit = 0; mark = 0 }))
+      × (answerForC (readingOf 1 image counts) ≡ record { number = 9; detail = 4; pressure = pos 0; temperature = pos 0; unit = 0; mark = 0 }))
   levels-told =
-      ⊎-elim (λ there. inr (there, ap answerTold (with-trim there))) (λ absent. inl (ap answerTold (without-trim absent ∙ sym shown))) trim-there
+      ⊎-elim (λ there. inr (there, ap answerForC (with-trim there))) (λ absent. inl (ap answerForC (without-trim absent ∙ sym shown))) trim-there

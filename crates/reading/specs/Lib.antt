@@ -3,12 +3,12 @@ pub mod Frequency
 pub mod Polynomial
 pub mod Measured
 pub mod InNumbers
-pub mod Told
+pub mod ForC
 pub mod PolynomialCuts
 pub mod MeasuredCuts
 pub mod ValueLaws
 pub mod FrequencyLaws
 pub mod PolynomialLaws
 pub mod MeasuredLaws
-pub mod ToldLaws
+pub mod ForCLaws
 pub mod Examples

@@ -19,10 +19,10 @@ mod measure;
 pub use measure::measured;
 
 // The answer for C.
-mod told;
+mod for_c;
 
-pub use told::ToldAnswer;
-pub use told::tell_answer;
+pub use for_c::AnswerForC;
+pub use for_c::answer_for_c;
 
 // Cycles that a gauge's sensor ran.
 #[repr(C)]

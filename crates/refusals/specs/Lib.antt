@@ -1,9 +1,9 @@
 pub mod InNumbers
 pub mod Refusals
 pub mod FieldsVerdict
-pub mod Told
+pub mod ForC
 pub mod RefusalsLaws
 pub mod VerdictLaws
 pub mod FieldsVerdictLaws
 pub mod TestsLaws
-pub mod ToldLaws
+pub mod ForCLaws

@@ -4,12 +4,12 @@ ghost use Rattle.refusals.specs.Refusals.{refusal, Settled};
 ghost use Rattle.refusals.specs.FieldsVerdict.{refusedAt};
 
 // Answers for C.
-mod told;
+mod for_c;
 
-pub use told::ToldFilled;
-pub use told::ToldVerdict;
-pub use told::tell_filled;
-pub use told::tell_verdict;
+pub use for_c::FilledForC;
+pub use for_c::VerdictForC;
+pub use for_c::filled_for_c;
+pub use for_c::verdict_for_c;
 
 // A number of document 01's table and its detail, which is wide enough for the line of any text.
 pub struct Refusal {

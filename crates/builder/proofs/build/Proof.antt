@@ -59,7 +59,7 @@ use Rattle.refusals.specs.declared.Filled.{Filled}
 use Rattle.refusals.specs.Refusals.{Fills}
 use Rattle.refusals.proofs.Filled.{the-row as filled-row, the-type as filled-type}
 use Rattle.refusals.proofs.Filled.Laws.{the-laws as filled-laws, mir as filled-mir}
-use Rattle.builder.specs.declared.Line.{Line}
+use Rattle.builder.specs.declared.KindAndLength.{KindAndLength}
 use Rattle.builder.specs.declared.Table.{Table}
 use Rattle.builder.specs.Build.{buildImage}
 use Rattle.builder.specs.Lines.{noLine}
@@ -93,7 +93,7 @@ use Rattle.builder.proofs.build.Code.Mir as mir
 -- ---- the loop's states
 
 -- of `count` lines to be looked at, i are in the table, whose machine value is `held`
-record State (lines : List Line) (count : ℕ) : Type 0 where
+record State (lines : List KindAndLength) (count : ℕ) : Type 0 where
   i : ℕ
   table : Table
   held : Val
@@ -101,10 +101,10 @@ record State (lines : List Line) (count : ℕ) : Type 0 where
   is : Is table-row table (held ∷ [])
   gathered : Gathered table (take i lines)
 
-abbrev Nearer : (lines : List Line) (count : ℕ) → State lines count → State lines count → Type 0
+abbrev Nearer : (lines : List KindAndLength) (count : ℕ) → State lines count → State lines count → Type 0
 Nearer lines count r s = count - r .i < count - s .i
 
-Nearer-wf : (lines : List Line) (count : ℕ) → WellFounded (Nearer lines count)
+Nearer-wf : (lines : List KindAndLength) (count : ℕ) → WellFounded (Nearer lines count)
 Nearer-wf lines count = InvImage·wf (λ (s : State lines count). count - s .i) (Nat·lt-wfRel .wf)
 
 -- ---- steps that come up more than once
@@ -161,15 +161,15 @@ module _ {M : Type 1} (𝓤 : URA M) (H : Heap 𝓤) (A : Atoms 𝓤) (mem : Mem
   BuildTable = tripleOf 𝓤 H A build-table.signature (build-table.spec 𝓤 H A mem run)
 
 -- what `put` promises
-abbrev Puts : Table → Line → Table → Type 0
-Puts table line r = (lines : List Line) → Gathered table lines → Gathered r (lines ++ line ∷ [])
+abbrev Puts : Table → KindAndLength → Table → Type 0
+Puts table line r = (lines : List KindAndLength) → Gathered table lines → Gathered r (lines ++ line ∷ [])
 
 -- lines and bodies are seen as they were passed; the image is given up to `build_table` for good
 abbrev stayed : Stays (build.ended .signature .params) (build.ended .kept)
 stayed = (stay-none-slice (0 ∷ []) tt (plain (λ _. line-row)) yes, (stay-none-slice (1 ∷ []) tt (plain (λ _. u8)) yes, (gave-slice (2 ∷ []) tt (plain (λ _. u8)), tt)))
 
 module _ {M : Type 1} (𝓤 : URA M) (H : Heap 𝓤) (A : Atoms 𝓤) (W : Given 𝓤 H A) (mem : Memory → SProp 𝓤) (run : Routine → Fun 𝓤)
-    (κ₀ κ₁ κ₂ : Lft) (q₀ q₁ q₂ : Share) (lines : RefT (List Line)) (bodies image : RefT (List ℕ)) where
+    (κ₀ κ₁ κ₂ : Lft) (q₀ q₁ q₂ : Share) (lines : RefT (List KindAndLength)) (bodies image : RefT (List ℕ)) where
   abbrev given : ℕ
   given = length (now lines)
 
@@ -235,10 +235,10 @@ module _ {M : Type 1} (𝓤 : URA M) (H : Heap 𝓤) (A : Atoms 𝓤) (W : Given
   asks-empty : ent 𝓤 (mean 𝓤 H A (‵ ftrue)) (Empty 𝓤 H A mem run .pre to-empty)
   asks-empty = qed W (‵ ftrue ∷ []) ∵ nothing ! $ join ! $ frame ! $ done !
 
-  abbrev to-put : Table → Val → Line → Val → Put 𝓤 H A mem run .Ghost
+  abbrev to-put : Table → Val → KindAndLength → Val → Put 𝓤 H A mem run .Ghost
   to-put t u l w = ((tt, tt, tt, (t, (l, tt)), (u ∷ [], (w ∷ [], tt))), tt)
 
-  asks-put : (t : Table) (u : Val) (l : Line) (w : Val) → Is table-row t (u ∷ []) → Is line-row l (w ∷ [])
+  asks-put : (t : Table) (u : Val) (l : KindAndLength) (w : Val) → Is table-row t (u ∷ []) → Is line-row l (w ∷ [])
       → ent 𝓤 (mean 𝓤 H A (‵ ftrue)) (Put 𝓤 H A mem run .pre (to-put t u l w))
   asks-put t u l w is-table is-line =
       qed W (‵ ftrue ∷ []) ∵ nothing ! $
@@ -349,7 +349,7 @@ module _ {M : Type 1} (𝓤 : URA M) (H : Heap 𝓤) (A : Atoms 𝓤) (W : Given
             inside : s .i < given
             inside = omega (arith, below, is-count)
 
-            line : Line
+            line : KindAndLength
             line = getD (now lines) (s .i) noLine
 
             lineᵛ : Val
@@ -376,7 +376,7 @@ module _ {M : Type 1} (𝓤 : URA M) (H : Heap 𝓤) (A : Atoms 𝓤) (W : Given
 
         -- what `build_table` promises of its result and of the image at exit
         abbrev Filling : State (now lines) count → Filled → List ℕ → Type 0
-        Filling s r after = (listed : List Line) → Gathered (s .table) listed → Fills (buildImage (length (now image)) listed (now bodies)) (now image) r after
+        Filling s r after = (listed : List KindAndLength) → Gathered (s .table) listed → Fills (buildImage (length (now image)) listed (now bodies)) (now image) r after
 
         leaves : (s : State (now lines) count) → ltb (s .i) count ≡ false → Sq W (At s) (runs C Λ En mir.turn-1 (anyQ (Turned s)))
         unfolding afterTurn

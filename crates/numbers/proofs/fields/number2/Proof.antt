@@ -24,8 +24,8 @@ cast-result-2 c = search needs
 returns-2 : tie.Need-returns-2
 returns-2 c = search (needs, number-of-short, number-at-end)
 
-whole2-requires : tie.Need-whole2-requires
-whole2-requires c κs = search needs
+number2-unchecked-requires : tie.Need-number2-unchecked-requires
+number2-unchecked-requires c κs = search needs
 
 returns-3 : tie.Need-returns-3
 returns-3 c = search needs
@@ -41,5 +41,5 @@ number2-spec =
     number1-requires-2
     cast-result-2
     returns-2
-    whole2-requires
+    number2-unchecked-requires
     returns-3)

@@ -6,8 +6,8 @@ use Rattle.numbers.proofs.fields.number4.Tie as tie
 sub-if2 : tie.Need-sub-if2
 sub-if2 c = search needs
 
-whole4-requires : tie.Need-whole4-requires
-whole4-requires c κs = search needs
+number4-unchecked-requires : tie.Need-number4-unchecked-requires
+number4-unchecked-requires c κs = search needs
 
 returns : tie.Need-returns
 returns c = search needs
@@ -44,7 +44,7 @@ number4-spec =
     tie.close
     (tie.spec
     sub-if2
-    whole4-requires
+    number4-unchecked-requires
     returns
     returns-2
     number2-requires

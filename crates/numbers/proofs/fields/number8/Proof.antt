@@ -6,8 +6,8 @@ use Rattle.numbers.proofs.fields.number8.Tie as tie
 sub-if2 : tie.Need-sub-if2
 sub-if2 c = search needs
 
-whole8-requires : tie.Need-whole8-requires
-whole8-requires c κs = search needs
+number8-unchecked-requires : tie.Need-number8-unchecked-requires
+number8-unchecked-requires c κs = search needs
 
 returns : tie.Need-returns
 returns c = search needs
@@ -44,7 +44,7 @@ number8-spec =
     tie.close
     (tie.spec
     sub-if2
-    whole8-requires
+    number8-unchecked-requires
     returns
     returns-2
     number4-requires
