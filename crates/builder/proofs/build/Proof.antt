@@ -64,8 +64,8 @@ use Rattle.builder.specs.declared.Table.{Table}
 use Rattle.builder.specs.Build.{buildImage}
 use Rattle.builder.specs.Lines.{noLine}
 use Rattle.builder.specs.GatherLaws.{Gathered, gathered-all}
-use Rattle.builder.proofs.Line.{the-row as line-row, the-type as line-type}
-use Rattle.builder.proofs.Line.Laws.{the-laws as line-laws, the-plain as line-plain, the-copy as line-copy, mir as line-mir}
+use Rattle.builder.proofs.KindAndLength.{the-row as line-row, the-type as line-type}
+use Rattle.builder.proofs.KindAndLength.Laws.{the-laws as line-laws, the-plain as line-plain, the-copy as line-copy, mir as line-mir}
 use Rattle.builder.proofs.Table.{the-row as table-row, the-type as table-type}
 use Rattle.builder.proofs.Table.Laws.{the-laws as table-laws, the-plain as table-plain, mir as table-mir}
 use Rattle.builder.proofs.gather.few as few
