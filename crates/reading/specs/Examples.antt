@@ -2,18 +2,18 @@
 use mathlib.Core.Path.{_≡_, refl}
 use mathlib.Core.List.{[], _∷_}
 use Prim.Native.Nat.{_^_}
-use lib.IntN.{pos}
+use lib.IntN.{ℤ, pos}
 use Rattle.whole.specs.Rounded.{rounded}
 use Rattle.refusals.specs.Refusals.{refusal}
 use Rattle.bodies.specs.declared.Identity.{Identity}
-use Rattle.sets.specs.declared.Set.{Set}
 use Rattle.reading.specs.declared.Counts.{Counts}
 use Rattle.reading.specs.declared.Answer.the-variants.{Shown}
 use Rattle.reading.specs.declared.Trimming.the-variants.{By}
 use Rattle.reading.specs.declared.value.Value.the-variants.{Known, Refused}
 use Rattle.reading.specs.Value.{within}
+use Rattle.reading.specs.Gauge.{CalibratedSet, Gauge}
 use Rattle.reading.specs.Frequency.{hertz, frequencyOf, prescaledOf}
-use Rattle.reading.specs.Polynomial.{stepOf, rowSum, gridSum, setResult}
+use Rattle.reading.specs.Polynomial.{nestedSum, stepOf, rowStep, setResult}
 use Rattle.reading.specs.Measured.{outside, markOf, trimmedBy, shownBy, measuredOf}
 
 pub frequency-whole : frequencyOf 1 10000 2000000 ≡ Known (pos 2359296000)
@@ -57,16 +57,27 @@ abbrev limits : Identity
 limits = record { serial = 7; year = 2003; month = 9; day = 8; tmin = pos 0; tmax = pos 100; pmin = pos 0; pmax = pos 100 }
 
 -- orders 0 and 0: the result is A0
-abbrev constantSet : Set
-constantSet =
+abbrev constantSet : ℤ → CalibratedSet
+constantSet a0 =
     record {
-      pressure = record { order = 0; multiplier = 0; offset = 0 };
-      temperature = record { order = 0; multiplier = 0; offset = 0 };
+      prescales = record {
+        pressure = record { order = 0; multiplier = 0; offset = 0 };
+        temperature = record { order = 0; multiplier = 0; offset = 0 };
+      };
+      grid = (a0 ∷ []) ∷ [];
     }
 
--- 100 psi are within the limits, and the mark is taken before trim makes 200 of them
-pub mark-before-trim : measuredOf counts limits constantSet ((pos 6553600 ∷ []) ∷ []) constantSet ((pos 0 ∷ []) ∷ [])
-    (By (record { unit = 1; span = 2 ^ 29; zero = pos 0 }))
-    ≡ Shown (record { pressure = pos 13107200; temperature = pos 0; unit = 1; mark = 0 })
-unfolding measuredOf frequencyOf hertz setResult prescaledOf gridSum rowSum stepOf within rounded outside markOf shownBy trimmedBy
+-- 100 psi, which a trim makes 200 of
+abbrev gauge : Gauge
+gauge =
+    record {
+      identity = limits;
+      pressureSet = constantSet (pos 6553600);
+      temperatureSet = constantSet (pos 0);
+      trimming = By (record { unit = 1; span = 2 ^ 29; zero = pos 0 });
+    }
+
+-- 100 psi are within the limits, and the mark is taken before trim
+pub mark-before-trim : measuredOf counts gauge ≡ Shown (record { pressure = pos 13107200; temperature = pos 0; unit = 1; mark = 0 })
+unfolding measuredOf frequencyOf hertz setResult prescaledOf nestedSum rowStep stepOf within rounded outside markOf shownBy trimmedBy
 mark-before-trim = refl

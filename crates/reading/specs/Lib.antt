@@ -1,4 +1,5 @@
 pub mod Value
+pub mod Gauge
 pub mod Frequency
 pub mod Polynomial
 pub mod Measured

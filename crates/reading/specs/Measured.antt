@@ -1,6 +1,5 @@
 -- Mark, trim, and the whole way from counts to an answer.
 use mathlib.Core.Bool.{Bool, cond, _||_}
-use mathlib.Core.List.{List}
 use Prim.Native.Nat.{ℕ, _+_, _^_}
 use lib.Dec.{leb}
 use lib.IntN.{ℤ, pos, natAbs, _+ℤ_, _*ℤ_}
@@ -8,7 +7,6 @@ use lib.Signed.{ltZ}
 use Rattle.whole.specs.Rounded.{rounded}
 use Rattle.refusals.specs.Refusals.{refusal}
 use Rattle.bodies.specs.declared.Identity.{Identity}
-use Rattle.sets.specs.declared.Set.{Set}
 use Rattle.bodies.specs.declared.Trim.{Trim}
 use Rattle.reading.specs.declared.Counts.{Counts}
 use Rattle.reading.specs.declared.Answer.{Answer}
@@ -19,6 +17,7 @@ use Rattle.reading.specs.declared.value.Value.{Value}
 use Rattle.reading.specs.declared.value.Value.the-variants.{Known, Refused as NotKnown}
 use Rattle.reading.specs.Frequency.{frequencyOf}
 use Rattle.reading.specs.Polynomial.{setResult}
+use Rattle.reading.specs.Gauge.{Gauge}
 
 -- z, in 1/65,536, lies outside the whole numbers from low to high
 unfoldable pub outside : (z low high : ℤ) → Bool
@@ -48,11 +47,10 @@ andShow (NotKnown r) next = Refused r
 
 -- the frequency of the pressure channel, then of the temperature channel, then the pressure set, then the temperature set, then
 -- what is shown
-unfoldable pub measuredOf : Counts → Identity → (pressureSet : Set) → (pressureGrid : List (List ℤ)) → (temperatureSet : Set)
-    → (temperatureGrid : List (List ℤ)) → Trimming → Answer
-measuredOf counts identity pressureSet pressureGrid temperatureSet temperatureGrid trimming =
+unfoldable pub measuredOf : Counts → Gauge → Answer
+measuredOf counts gauge =
     andShow (frequencyOf 1 (counts .pressure .sensor .0) (counts .pressure .reference .0))
     (λ fp. andShow (frequencyOf 2 (counts .temperature .sensor .0) (counts .temperature .reference .0))
-    (λ ft. andShow (setResult 2 1 pressureSet pressureGrid fp ft)
-    (λ pressure. andShow (setResult 3 3 temperatureSet temperatureGrid fp ft)
-    (λ temperature. shownBy trimming pressure temperature (markOf identity pressure temperature)))))
+    (λ ft. andShow (setResult 2 1 (gauge .pressureSet) fp ft)
+    (λ pressure. andShow (setResult 3 3 (gauge .temperatureSet) fp ft)
+    (λ temperature. shownBy (gauge .trimming) pressure temperature (markOf (gauge .identity) pressure temperature)))))

@@ -1,14 +1,16 @@
+// A channel's frequency, and X: the frequency prescaled.
 use crate::ReferenceCycles;
 use crate::SensorCycles;
 use crate::value::Value;
 use crate::value::limited;
-use crate::value::refused;
+use crate::value::value_refused;
 use sets::Prescale;
 ghost use mathlib.Core.Path.{_≡_};
 ghost use Prim.Native.Nat.{_≤_};
 ghost use lib.IntN.{pos, natAbs, _*ℤ_};
 ghost use mir.Syntax.{w64};
 ghost use mir.Val.{SFits};
+ghost use Rattle.limits.specs.Limits.{highestFrequency};
 ghost use Rattle.reading.specs.Frequency.{frequencyOf, scaledOf, prescaledOf};
 
 // F, in 1/65,536 Hz.
@@ -18,20 +20,20 @@ pub fn frequency(channel: u64, sensor: SensorCycles, reference: ReferenceCycles)
     let cycles = sensor.0;
     let references = reference.0;
     if cycles == 0 {
-        return refused(21, channel);
+        return value_refused(21, channel);
     }
-    if 1048576 < cycles {
-        return refused(21, channel);
+    if limits::MOST_SENSOR_CYCLES < cycles {
+        return value_refused(21, channel);
     }
     if references == 0 {
-        return refused(22, channel);
+        return value_refused(22, channel);
     }
-    let hertz = whole::rounding::rounded_quotient(471859200000 * cycles, references);
-    if hertz < 655360000 {
-        return refused(23, channel);
+    let hertz = whole::rounding::rounded_quotient(limits::REFERENCE_FREQUENCY * cycles, references);
+    if hertz < limits::LOWEST_FREQUENCY {
+        return value_refused(23, channel);
     }
-    if 6553600000 < hertz {
-        return refused(23, channel);
+    if limits::HIGHEST_FREQUENCY < hertz {
+        return value_refused(23, channel);
     }
     Value::Known(hertz as i64)
 }
@@ -43,7 +45,7 @@ fn scaled(detail: u64, multiplier: u32, difference: i64) -> Value
     let factor = multiplier as u64;
     let distance = whole::magnitude(difference);
     // the product fits, as by every set that is right it does, so that no reading waits for a division
-    if factor <= 1073741824 {
+    if factor <= limits::LARGEST_MULTIPLIER {
         if distance < 8589934592 {
             return scaled_product(detail, multiplier, difference);
         }
@@ -53,7 +55,7 @@ fn scaled(detail: u64, multiplier: u32, difference: i64) -> Value
     }
     // a product that might not fit is far beyond the limit
     if 144115188075855872 / factor < distance {
-        return refused(24, detail);
+        return value_refused(24, detail);
     }
     scaled_product(detail, multiplier, difference)
 }
@@ -65,12 +67,12 @@ fn scaled_product(detail: u64, multiplier: u32, difference: i64) -> Value
 {
     let product = (multiplier as i64) * difference;
     let x = whole::rounding::rounded_over_2_32(product);
-    limited(16777216, 24, detail, x)
+    limited(limits::LARGEST_X, 24, detail, x)
 }
 
 // X of a frequency that is no higher than 23 allows.
 pub fn prescaled(detail: u64, prescale: Prescale, frequency: i64) -> Value
-    requires { ⌜ natAbs frequency ≤ 6553600000 ⌝ }
+    requires { ⌜ natAbs frequency ≤ highestFrequency ⌝ }
     ensures { λ r. ⌜ r ≡ prescaledOf detail prescale frequency ⌝ }
 {
     if prescale.order == 0 {
@@ -84,5 +86,5 @@ pub fn prescaled(detail: u64, prescale: Prescale, frequency: i64) -> Value
     if prescale.multiplier == 0 {
         return Value::Known(0);
     }
-    refused(24, detail)
+    value_refused(24, detail)
 }

@@ -1,87 +1,43 @@
+// From counts to an answer: both frequencies, the results of both sets, then what is shown.
 use crate::Answer;
-use crate::Channel;
 use crate::Counts;
 use crate::Trimming;
 use crate::frequency::frequency;
 use crate::polynomial::set_result;
 use crate::shown::mark;
-use crate::shown::show;
+use crate::shown::shown_by;
+use crate::value::Both;
 use crate::value::Value;
+use crate::value::beside;
 use bodies::Identity;
 ghost use mathlib.Core.Path.{_≡_};
-ghost use Prim.Native.Nat.{_≤_, _^_};
+ghost use Prim.Native.Nat.{_≤_};
 ghost use lib.IntN.{natAbs};
-ghost use Rattle.sets.specs.Set.{setOf, gridOf};
+ghost use Rattle.limits.specs.Limits.{highestFrequency};
+ghost use Rattle.reading.specs.Gauge.{calibratedSet, gaugeOf};
 ghost use Rattle.reading.specs.Measured.{measuredOf};
-ghost use Rattle.reading.specs.MeasuredCuts.{fromPressure, fromFrequencies, fromPressureFrequency};
+ghost use Rattle.reading.specs.MeasuredCuts.{frequenciesOf, resultsOf};
 
-fn from_pressure(
-    pressure: i64,
-    fp: i64,
-    ft: i64,
-    identity: Identity,
-    temperature_set: &[u8],
-    trimming: Trimming,
-) -> Answer
-    requires { ⌜ (natAbs pressure ≤ 2 ^ 31) × (natAbs fp ≤ 6553600000) × (natAbs ft ≤ 6553600000) ⌝ }
-    ensures { λ r. ⌜ r ≡ fromPressure pressure fp ft identity (setOf (now («temperature_set» .entry))) (gridOf (now («temperature_set» .entry))) trimming ⌝ }
+// Refusals 21 to 23, of the pressure channel first.
+fn frequencies(counts: Counts) -> Both
+    ensures { λ r. ⌜ r ≡ frequenciesOf counts ⌝ }
 {
-    match set_result(3, 3, temperature_set, fp, ft) {
-        Value::Known(temperature) => {
-            let outside = mark(identity, pressure, temperature);
-            show(trimming, pressure, temperature, outside)
-        }
-        Value::Refused(refusal) => Answer::Refused(refusal),
+    let pressure = counts.pressure;
+    let temperature = counts.temperature;
+    match frequency(1, pressure.sensor, pressure.reference) {
+        Value::Known(fp) => beside(fp, frequency(2, temperature.sensor, temperature.reference)),
+        Value::Refused(refusal) => Both::Refused(refusal),
     }
 }
 
-fn from_frequencies(
-    fp: i64,
-    ft: i64,
-    identity: Identity,
-    pressure_set: &[u8],
-    temperature_set: &[u8],
-    trimming: Trimming,
-) -> Answer
-    requires { ⌜ (natAbs fp ≤ 6553600000) × (natAbs ft ≤ 6553600000) ⌝ }
-    ensures { λ r. ⌜ r ≡ fromFrequencies fp ft identity (setOf (now («pressure_set» .entry))) (gridOf (now («pressure_set» .entry))) (setOf (now («temperature_set» .entry))) (gridOf (now («temperature_set» .entry))) trimming ⌝ }
+// Refusals 24 to 26, of the pressure set first.
+fn results(fp: i64, ft: i64, pressure_set: &[u8], temperature_set: &[u8]) -> Both
+    requires { ⌜ (natAbs fp ≤ highestFrequency) × (natAbs ft ≤ highestFrequency) ⌝ }
+    ensures { λ r. ⌜ r ≡ resultsOf (calibratedSet (now («pressure_set» .entry))) (calibratedSet (now («temperature_set» .entry))) fp ft ⌝ }
 {
     match set_result(2, 1, pressure_set, fp, ft) {
-        Value::Known(pressure) => from_pressure(
-            pressure,
-            fp,
-            ft,
-            identity,
-            temperature_set,
-            trimming,
-        ),
-        Value::Refused(refusal) => Answer::Refused(refusal),
-    }
-}
-
-fn from_pressure_frequency(
-    fp: i64,
-    temperature: Channel,
-    identity: Identity,
-    pressure_set: &[u8],
-    temperature_set: &[u8],
-    trimming: Trimming,
-) -> Answer
-    requires { ⌜ natAbs fp ≤ 6553600000 ⌝ }
-    ensures { λ r. ⌜ r ≡ fromPressureFrequency fp temperature identity (setOf (now («pressure_set» .entry))) (gridOf (now («pressure_set» .entry))) (setOf (now («temperature_set» .entry))) (gridOf (now («temperature_set» .entry))) trimming ⌝ }
-{
-    let sensor = temperature.sensor;
-    let reference = temperature.reference;
-    match frequency(2, sensor, reference) {
-        Value::Known(ft) => from_frequencies(
-            fp,
-            ft,
-            identity,
-            pressure_set,
-            temperature_set,
-            trimming,
-        ),
-        Value::Refused(refusal) => Answer::Refused(refusal),
+        Value::Known(pressure) => beside(pressure, set_result(3, 3, temperature_set, fp, ft)),
+        Value::Refused(refusal) => Both::Refused(refusal),
     }
 }
 
@@ -93,21 +49,16 @@ pub fn measured(
     temperature_set: &[u8],
     trimming: Trimming,
 ) -> Answer
-    ensures { λ r. ⌜ r ≡ measuredOf counts identity (setOf (now («pressure_set» .entry))) (gridOf (now («pressure_set» .entry))) (setOf (now («temperature_set» .entry))) (gridOf (now («temperature_set» .entry))) trimming ⌝ }
+    ensures { λ r. ⌜ r ≡ measuredOf counts (gaugeOf identity (now («pressure_set» .entry)) (now («temperature_set» .entry)) trimming) ⌝ }
 {
-    let pressure = counts.pressure;
-    let temperature = counts.temperature;
-    let sensor = pressure.sensor;
-    let reference = pressure.reference;
-    match frequency(1, sensor, reference) {
-        Value::Known(fp) => from_pressure_frequency(
-            fp,
-            temperature,
-            identity,
-            pressure_set,
-            temperature_set,
-            trimming,
-        ),
-        Value::Refused(refusal) => Answer::Refused(refusal),
+    match frequencies(counts) {
+        Both::Known(fp, ft) => match results(fp, ft, pressure_set, temperature_set) {
+            Both::Known(pressure, temperature) => {
+                let outside = mark(identity, pressure, temperature);
+                shown_by(trimming, pressure, temperature, outside)
+            }
+            Both::Refused(refusal) => Answer::Refused(refusal),
+        },
+        Both::Refused(refusal) => Answer::Refused(refusal),
     }
 }

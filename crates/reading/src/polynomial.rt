@@ -1,3 +1,4 @@
+// The sum of a set: each row in XT, then the rows' sums in XP.
 use crate::frequency::prescaled;
 use crate::value::Value;
 use crate::value::limited;
@@ -7,23 +8,24 @@ ghost use mathlib.Core.Bool.{true};
 ghost use Prim.Native.Nat.{_≤_, _^_};
 ghost use lib.IntN.{pos, natAbs};
 ghost use lib.ListN.{replicate};
-ghost use Rattle.sets.specs.Set.{setOf, gridOf};
-ghost use Rattle.reading.specs.Polynomial.{stepOf, rowSum, gridSum, setResult};
-ghost use Rattle.reading.specs.PolynomialCuts.{rowStep, gridResult, resultFromXp};
+ghost use Rattle.limits.specs.Limits.{highestFrequency, largestX, largestSum};
+ghost use Rattle.reading.specs.Gauge.{calibratedSet};
+ghost use Rattle.reading.specs.Polynomial.{stepOf, rowSum, rowStep, gridSum, setResult};
+ghost use Rattle.reading.specs.PolynomialCuts.{gridResult, resultFromXp};
 
 // One step of a running sum.
 fn step(kind: u64, x: i64, coefficient: i64, sum: i64) -> Value
-    requires { ⌜ (natAbs x ≤ 2 ^ 24) × (natAbs sum ≤ 500000000000) ⌝ }
+    requires { ⌜ (natAbs x ≤ largestX) × (natAbs sum ≤ largestSum) ⌝ }
     ensures { λ r. ⌜ r ≡ stepOf kind x coefficient sum ⌝ }
 {
     let turn = whole::rounding::rounded_over_2_24(sum * x);
     // where the sum does not fit, what is left of it is beyond the limit too
     let next = whole::wrapped_sum(coefficient, turn);
-    limited(500000000000, 25, kind, next)
+    limited(limits::LARGEST_SUM, 25, kind, next)
 }
 
 fn row_sum(kind: u64, x: i64, row: [i64; 5]) -> Value
-    requires { ⌜ natAbs x ≤ 2 ^ 24 ⌝ }
+    requires { ⌜ natAbs x ≤ largestX ⌝ }
     ensures { λ r. ⌜ r ≡ rowSum kind x row ⌝ }
 {
     let mut sum: i64 = 0;
@@ -57,7 +59,7 @@ fn is_zero(row: [i64; 5]) -> bool
 
 // One step of the rows' running sum: a row's own sum is the coefficient.
 fn row_step(kind: u64, xp: i64, xt: i64, row: [i64; 5], sum: i64) -> Value
-    requires { ⌜ (natAbs xp ≤ 2 ^ 24) × (natAbs xt ≤ 2 ^ 24) × (natAbs sum ≤ 500000000000) ⌝ }
+    requires { ⌜ (natAbs xp ≤ largestX) × (natAbs xt ≤ largestX) × (natAbs sum ≤ largestSum) ⌝ }
     ensures { λ r. ⌜ r ≡ rowStep kind xp xt row sum ⌝ }
 {
     // an absent row under absent rows adds nothing
@@ -73,7 +75,7 @@ fn row_step(kind: u64, xp: i64, xt: i64, row: [i64; 5], sum: i64) -> Value
 }
 
 fn grid_sum(kind: u64, xp: i64, xt: i64, grid: [[i64; 5]; 5]) -> Value
-    requires { ⌜ (natAbs xp ≤ 2 ^ 24) × (natAbs xt ≤ 2 ^ 24) ⌝ }
+    requires { ⌜ (natAbs xp ≤ largestX) × (natAbs xt ≤ largestX) ⌝ }
     ensures { λ r. ⌜ r ≡ gridSum kind xp xt grid ⌝ }
 {
     let mut sum: i64 = 0;
@@ -94,11 +96,11 @@ fn grid_sum(kind: u64, xp: i64, xt: i64, grid: [[i64; 5]; 5]) -> Value
 }
 
 fn grid_result(kind: u64, xp: i64, xt: i64, grid: [[i64; 5]; 5]) -> Value
-    requires { ⌜ (natAbs xp ≤ 2 ^ 24) × (natAbs xt ≤ 2 ^ 24) ⌝ }
+    requires { ⌜ (natAbs xp ≤ largestX) × (natAbs xt ≤ largestX) ⌝ }
     ensures { λ r. ⌜ r ≡ gridResult kind xp xt grid ⌝ }
 {
     match grid_sum(kind, xp, xt, grid) {
-        Value::Known(sum) => limited(2147483648, 26, kind, sum),
+        Value::Known(sum) => limited(limits::LARGEST_RESULT, 26, kind, sum),
         Value::Refused(refusal) => Value::Refused(refusal),
     }
 }
@@ -111,7 +113,7 @@ fn result_from_xp(
     temperature: i64,
     grid: [[i64; 5]; 5],
 ) -> Value
-    requires { ⌜ (natAbs xp ≤ 2 ^ 24) × (natAbs temperature ≤ 6553600000) ⌝ }
+    requires { ⌜ (natAbs xp ≤ largestX) × (natAbs temperature ≤ highestFrequency) ⌝ }
     ensures { λ r. ⌜ r ≡ resultFromXp kind detail xp scale temperature grid ⌝ }
 {
     match prescaled(detail, scale, temperature) {
@@ -121,20 +123,20 @@ fn result_from_xp(
 }
 
 // The result of the set that a body holds, from its own prescale of both frequencies.
-pub fn set_result(kind: u64, first: u64, body: &[u8], pressure: i64, temperature: i64) -> Value
-    requires { ⌜ (natAbs pressure ≤ 6553600000) × (natAbs temperature ≤ 6553600000) × (first ≤ 3) ⌝ }
-    ensures { λ r. ⌜ r ≡ setResult kind first (setOf (now (body .entry))) (gridOf (now (body .entry))) pressure temperature ⌝ }
+pub fn set_result(kind: u64, first: u64, body: &[u8], fp: i64, ft: i64) -> Value
+    requires { ⌜ (natAbs fp ≤ highestFrequency) × (natAbs ft ≤ highestFrequency) × (first ≤ 3) ⌝ }
+    ensures { λ r. ⌜ r ≡ setResult kind first (calibratedSet (now (body .entry))) fp ft ⌝ }
 {
     let set = sets::read_set(body);
     let by_pressure = set.pressure;
     let by_temperature = set.temperature;
-    match prescaled(first, by_pressure, pressure) {
+    match prescaled(first, by_pressure, fp) {
         Value::Known(xp) => result_from_xp(
             kind,
             first + 1,
             xp,
             by_temperature,
-            temperature,
+            ft,
             sets::read_grid(body),
         ),
         Value::Refused(refusal) => Value::Refused(refusal),

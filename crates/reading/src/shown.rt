@@ -1,3 +1,4 @@
+// Mark and trim: what is shown of a pressure and a temperature.
 use crate::Answer;
 use crate::Reading;
 use crate::Trimming;
@@ -7,6 +8,7 @@ use refusals::Refusal;
 ghost use mathlib.Core.Path.{_≡_};
 ghost use Prim.Native.Nat.{_≤_, _^_};
 ghost use lib.IntN.{pos, natAbs, _*ℤ_};
+ghost use Rattle.limits.specs.Limits.{largestResult};
 ghost use Rattle.reading.specs.Measured.{outside, markOf, trimmedBy, shownBy};
 
 // A whole number in 1/65,536.
@@ -43,14 +45,14 @@ pub fn mark(identity: Identity, pressure: i64, temperature: i64) -> u8
 }
 
 fn trimmed(trim: Trim, pressure: i64) -> i64
-    requires { ⌜ (natAbs (trim .zero) ≤ 2 ^ 40) × (natAbs pressure ≤ 2 ^ 31) ⌝ }
+    requires { ⌜ (natAbs (trim .zero) ≤ 2 ^ 40) × (natAbs pressure ≤ largestResult) ⌝ }
     ensures { λ r. ⌜ r ≡ trimmedBy trim pressure ⌝ }
 {
     trim.zero + whole::rounding::rounded_over_2_28((trim.span as i64) * pressure)
 }
 
-pub fn show(trimming: Trimming, pressure: i64, temperature: i64, mark: u8) -> Answer
-    requires { ⌜ natAbs pressure ≤ 2 ^ 31 ⌝ }
+pub fn shown_by(trimming: Trimming, pressure: i64, temperature: i64, mark: u8) -> Answer
+    requires { ⌜ natAbs pressure ≤ largestResult ⌝ }
     ensures { λ r. ⌜ r ≡ shownBy trimming pressure temperature mark ⌝ }
 {
     match trimming {
@@ -61,7 +63,7 @@ pub fn show(trimming: Trimming, pressure: i64, temperature: i64, mark: u8) -> An
             mark,
         }),
         Trimming::By(trim) => {
-            if 1099511627776 < whole::magnitude(trim.zero) {
+            if limits::LARGEST_ZERO < whole::magnitude(trim.zero) {
                 return Answer::Refused(Refusal {
                     number: 15,
                     detail: 0,

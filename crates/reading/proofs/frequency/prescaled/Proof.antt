@@ -43,8 +43,8 @@ returns-2 c =
 returns-3 : tie.Need-returns-3
 returns-3 c = search (needs, no-multiplier)
 
-refused-requires : tie.Need-refused-requires
-refused-requires c κs = search needs
+value-refused-requires : tie.Need-value-refused-requires
+value-refused-requires c κs = search needs
 
 returns-4 : tie.Need-returns-4
 returns-4 c = search (needs, far-offset)
@@ -59,5 +59,5 @@ prescaled-spec =
     scaled-requires
     returns-2
     returns-3
-    refused-requires
+    value-refused-requires
     returns-4)

@@ -28,14 +28,14 @@ returns-2 c = search (needs, nothing-to-multiply)
 div-if4 : tie.Need-div-if4
 div-if4 c = search needs
 
-refused-requires : tie.Need-refused-requires
-refused-requires c κs = search needs
+value-refused-requires : tie.Need-value-refused-requires
+value-refused-requires c κs = search needs
 
 returns-3 : tie.Need-returns-3
 returns-3 c =
     let m = c .before .before .before .before in
     let a = m .before in
-    far-product (a .args .detail) (a .args .multiplier) (a .args .difference) (c .before .before .if3 .left) (c .refused .ensures)
+    far-product (a .args .detail) (a .args .multiplier) (a .args .difference) (c .before .before .if3 .left) (c .value-refused .ensures)
     (rw (distance m) at (c .before .if4 .taken))
 
 scaled-product-requires-2 : tie.Need-scaled-product-requires-2
@@ -57,7 +57,7 @@ scaled-spec =
     returns
     returns-2
     div-if4
-    refused-requires
+    value-refused-requires
     returns-3
     scaled-product-requires-2
     returns-4)

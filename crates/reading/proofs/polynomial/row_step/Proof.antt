@@ -4,7 +4,7 @@ use mir.Syntax.{w64}
 use mir.Facts.{toZ-ofZ}
 use Rattle.laws.specs.Pattern.{read-back}
 use Rattle.reading.specs.ValueLaws.{value-known, value-refused}
-use Rattle.reading.specs.PolynomialCuts.{rowStep}
+use Rattle.reading.specs.Polynomial.{rowStep}
 use Rattle.reading.specs.PolynomialLaws.{row-adds-nothing}
 use Rattle.reading.proofs.polynomial.row_step.Statement.{statement}
 use Rattle.reading.proofs.polynomial.row_step.Tie as tie

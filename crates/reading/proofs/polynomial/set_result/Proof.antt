@@ -30,7 +30,7 @@ result-from-xp-requires c κs =
     let b = c .before .before .before .before .before .before .before .before .before in
     let g = c .before .before .xp .given in
     let x = read-back w64 (g .0 .0) (c .before .known-told .given .0 .1) in
-    (rw x (prescaled-bound _ _ _ (g .0 .0) (sym (c .before .before .before .before .prescaled .ensures) ∙ g .1)), rw (toZ-ofZ (b .fits .temperature)) (b .pre .1))
+    (rw x (prescaled-bound _ _ _ (g .0 .0) (sym (c .before .before .before .before .prescaled .ensures) ∙ g .1)), rw (toZ-ofZ (b .fits .ft)) (b .pre .1))
 
 enum-known-refusal : tie.Need-enum-known-refusal
 enum-known-refusal c = search needs
@@ -41,8 +41,8 @@ returns c =
     let b = c .before .before .before .before .before .before .before .before .before .before in
     let set = c .before .before .before .before .before .before .before .before .read-set .ensures in
     let g = c .before .before .before .xp .given in
-    let x = rw (toZ-ofZ (b .fits .pressure), set) at (c .before .before .before .before .before .prescaled .ensures) in
-    (rw (toZ-ofZ (b .fits .temperature), read-back w64 (g .0 .0) (c .before .before .known-told .given .0 .1), set, c .before .read-grid .ensures) at (c .result-from-xp .ensures))
+    let x = rw (toZ-ofZ (b .fits .fp), set) at (c .before .before .before .before .before .prescaled .ensures) in
+    (rw (toZ-ofZ (b .fits .ft), read-back w64 (g .0 .0) (c .before .before .known-told .given .0 .1), set, c .before .read-grid .ensures) at (c .result-from-xp .ensures))
     ∙ value-known _ x (g .1)
 
 returns-2 : tie.Need-returns-2
@@ -50,7 +50,7 @@ unfolding setResult
 returns-2 c =
     let b = c .before .before .before .before .before .before .before .before in
     let set = c .before .before .before .before .before .before .read-set .ensures in
-    let x = rw (toZ-ofZ (b .fits .pressure), set) at (c .before .before .before .prescaled .ensures) in
+    let x = rw (toZ-ofZ (b .fits .fp), set) at (c .before .before .before .prescaled .ensures) in
     value-refused _ x (c .before .refusal .given .1)
 
 pub set-result-spec : {M : Type 1} → statement M

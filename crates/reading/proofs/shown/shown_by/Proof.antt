@@ -11,8 +11,8 @@ use mir.Val.{toZ, ofZ}
 use mir.Facts.{toZ-ofZ}
 use Rattle.laws.specs.Pattern.{read-back}
 use Rattle.reading.specs.Measured.{shownBy}
-use Rattle.reading.proofs.shown.show.Statement.{statement}
-use Rattle.reading.proofs.shown.show.Tie as tie
+use Rattle.reading.proofs.shown.shown_by.Statement.{statement}
+use Rattle.reading.proofs.shown.shown_by.Tie as tie
 
 enum-told : tie.Need-enum-told
 enum-told c = search needs
@@ -62,8 +62,8 @@ returns-3 c =
     let shown = rw (toZ-ofZ (b .fits .pressure)) at (c .trimmed .ensures) in
     rw (toZ-ofZ (b .fits .temperature), read-back w64 (c .trimmed .result) (c .trimmed .ok), shown, g .1, near)
 
-pub show-spec : {M : Type 1} → statement M
-show-spec =
+pub shown-by-spec : {M : Type 1} → statement M
+shown-by-spec =
     tie.close
     (tie.spec
     enum-told
