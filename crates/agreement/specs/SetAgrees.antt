@@ -22,7 +22,8 @@ use Rattle.reading.specs.declared.value.Value.{Value}
 use Rattle.reading.specs.declared.value.Value.the-variants.{Known, Refused}
 use Rattle.reading.specs.Value.{withValue, within}
 use Rattle.reading.specs.Frequency.{prescaledOf}
-use Rattle.reading.specs.Polynomial.{stepOf, rowSum, gridSum, setResult}
+use Rattle.reading.specs.Gauge.{calibratedSet}
+use Rattle.reading.specs.Polynomial.{nestedSum, stepOf, rowSum, rowStep, gridSum, setResult}
 use Rattle.agreement.specs.FieldsAgree.{number-same, signed-same}
 use Rattle.agreement.specs.NearestLaws.{nearest-once}
 use Rattle.agreement.specs.ValueLaws.{ValueGives, value-then, within-gives}
@@ -34,14 +35,14 @@ use Rattle.agreement.specs.ChainLaws.{chain, zeros-chain, TermGives, Cha
 
 row-chain : (kind : ℕ) (x : ℤ) (body : List ℕ) (r left place : ℕ)
     → rowSum kind x (rowFrom body r left place) ≡ chain kind x (λ (p : ℕ). Known (gridPlace body r p)) left place
-unfolding rowSum rowFrom chain
+unfolding nestedSum rowFrom chain
 row-chain kind x body r zero place = refl
 row-chain kind x body r (suc left) place =
     ap (λ (v : Value). withValue v (λ sum. stepOf kind x (gridPlace body r place) sum)) (row-chain kind x body r left (place + 1))
 
 grid-chain : (kind : ℕ) (xp xt : ℤ) (body : List ℕ) (left r : ℕ)
     → gridSum kind xp xt (rowsFrom body left r) ≡ chain kind xp (λ (q : ℕ). rowSum kind xt (rowFrom body q 5 0)) left r
-unfolding gridSum rowsFrom chain
+unfolding nestedSum rowStep rowsFrom chain
 grid-chain kind xp xt body zero r = refl
 grid-chain kind xp xt body (suc left) r =
     ap (λ (v : Value). withValue v (λ sum. withValue (rowSum kind xt (rowFrom body r 5 0)) (λ c. stepOf kind xp c sum)))
@@ -227,7 +228,7 @@ module _ (body : List ℕ) (right : Not (SetWrong body)) where
       abbrev fromXP : (xp : ℤ) → Value
       fromXP xp = withValue (prescaledOf (first + 1) (setOf body .temperature) ft) (λ xt. fromXT xp xt)
 
-      pub set-gives : ValueGives (row24P ∷ row24T ∷ row25 ∷ row26 ∷ []) IsResult (setResult kind first (setOf body) (gridOf body) fp ft)
+      pub set-gives : ValueGives (row24P ∷ row24T ∷ row25 ∷ row26 ∷ []) IsResult (setResult kind first (calibratedSet body) fp ft)
       unfolding setOf setResult
       set-gives =
           value-then (row24P ∷ []) (row24T ∷ row25 ∷ row26 ∷ []) (λ (x : ℤ). IsXP body fp x) IsResult (prescaledOf first (setOf body .pressure) fp)

@@ -10,7 +10,7 @@ use native.Mathlib.Omega.{arith}
 use borrow.Author.Tests.{leb-true, leb-false, eqb-true, eqb-false}
 use lib.Dec.{eqb}
 use Rattle.paper.specs.Words.{Not, Lowest}
-use Rattle.paper.specs.Table.{row, NoneGiven, FirstGiven}
+use Rattle.paper.specs.Table.{Row, row, NoneGiven, FirstGiven}
 use Rattle.paper.specs.Image.{HasKind, HasBody, layoutTable}
 use Rattle.paper.specs.Bodies.{IdentityWrong, SetWrong, TrimWrong, NoteWrong}
 use Rattle.paper.specs.Verdict.{IsLevel, Knows, UnknownLow, Missing, BodyWrong, sectionsTable, verdictTable}
@@ -24,7 +24,7 @@ use Rattle.image.specs.Sections.{sectionsFrom, sections}
 use Rattle.image.specs.Find.{bodyOf, isThere}
 use Rattle.image.specs.OrderLaws.{Ascending, sections-ascend}
 use Rattle.panel.specs.Levels.{isLevel, knows, mayPass}
-use Rattle.panel.specs.Verdict.{levelVerdict, unknownVerdict, missingVerdict, kindVerdict, thereVerdict, bodyVerdict, bodiesVerdict, sectionsVerdict, verdictOf}
+use Rattle.panel.specs.Verdict.{levelVerdict, unknownVerdict, missingVerdict, kindVerdict, thereVerdict, kindsVerdict, bodiesVerdict, sectionsVerdict, verdictOf}
 use Rattle.agreement.specs.TableLaws.{Gives, Judges, judged-alone, none-before, none-after, gives-append, gives-then, Single, single-append, row-once, lowest-once, refused-exactly, accepted-exactly}
 use Rattle.agreement.specs.TestsLaws.{Fails, fails-as, Passes, passes-eq, passes-or, passes-never, passes-as, passes-fails, ask-judges, judges-as}
 use Rattle.agreement.specs.FieldsAgree.{number-same}
@@ -138,55 +138,64 @@ module _ (level : ℕ) (image : List ℕ) (known : IsLevel level) (good : layout
             (λ w. let same : w .0 ≡ body = cc (had-is-found image kind good (w .0) (w .1), e) in rw same at (w .2))
             (kindVerdict kind body) (judges body)
 
-    known-judges : Judges (row number 0 (Knows level kind × BodyWrong image kind Wrong)) (bodyVerdict level kind (sections image))
-    unfolding bodyVerdict
-    known-judges =
-        let f = knows-passes level known kind in
-        decide (knows level kind)
-        (λ e. rw e (judges-as number 0 (λ w. (f .yes e, w)) (λ w. w .1) (thereVerdict (kindVerdict kind) (bodyOf kind (sections image))) body-judges))
-        (λ e. rw e (λ d g. f .no e (g .1 .0)))
+    -- where a condition holds beside it
+    also-judges : (Also : Type 0) → Also → Judges (row number 0 (Also × BodyWrong image kind Wrong)) (thereVerdict (kindVerdict kind) (bodyOf kind (sections image)))
+    also-judges Also holds = judges-as number 0 (λ w. (holds, w)) (λ w. w .1) (thereVerdict (kindVerdict kind) (bodyOf kind (sections image))) body-judges
 
-    -- kinds 1 to 3, which both levels know
-    first-judges : 1 ≤ kind → kind ≤ 3 → Judges (row number 0 (BodyWrong image kind Wrong)) (bodyVerdict level kind (sections image))
-    first-judges h k = judges-as number 0 (λ w. w .1) (λ w. (inl (known, h, k), w)) (bodyVerdict level kind (sections image)) known-judges
+  -- one kind more, by its row
+  kind-gives : (kind : ℕ) (kinds : List ℕ) (r : Row) (rows : List Row) → Judges r (thereVerdict (kindVerdict kind) (bodyOf kind (sections image)))
+      → Gives rows (kindsVerdict kinds (sections image)) → Gives (r ∷ rows) (kindsVerdict (kind ∷ kinds) (sections image))
+  unfolding kindsVerdict
+  kind-gives kind kinds r rows judges others =
+      gives-then r rows (thereVerdict (kindVerdict kind) (bodyOf kind (sections image))) (kindsVerdict kinds (sections image)) judges (λ _. others)
 
-    -- and those that only level 2 knows
-    second-judges : 3 < kind → (kind ≡ 4) ⊎ (kind ≡ 129)
-        → Judges (row number 0 ((level ≡ 2) × BodyWrong image kind Wrong)) (bodyVerdict level kind (sections image))
-    second-judges h which =
-        judges-as number 0
-        (λ w. (⊎-elim (λ k. absurd (omega (arith, k .2))) (λ k. k .0) (w .0), w .1))
-        (λ w. (inr (w .0, which), w .1))
-        (bodyVerdict level kind (sections image)) known-judges
+  abbrev identity : Row
+  identity = row 11 0 (BodyWrong image 1 IdentityWrong)
+
+  abbrev pressure : Row
+  pressure = row 12 0 (BodyWrong image 2 SetWrong)
+
+  abbrev temperature : Row
+  temperature = row 13 0 (BodyWrong image 3 SetWrong)
+
+  abbrev trim : (level : ℕ) → Row
+  trim level = row 15 0 ((level ≡ 2) × BodyWrong image 4 TrimWrong)
+
+  abbrev note : (level : ℕ) → Row
+  note level = row 16 0 ((level ≡ 2) × BodyWrong image 129 NoteWrong)
+
+  -- kinds 1 to 3, which every level knows, and then the others
+  first-kinds-give : (rows : List Row) (kinds : List ℕ) → Gives rows (kindsVerdict kinds (sections image))
+      → Gives (identity ∷ pressure ∷ temperature ∷ rows) (kindsVerdict (1 ∷ 2 ∷ 3 ∷ kinds) (sections image))
+  unfolding kindVerdict
+  first-kinds-give rows kinds others =
+      kind-gives 1 (2 ∷ 3 ∷ kinds) identity (pressure ∷ temperature ∷ rows) (body-judges 1 11 IdentityWrong identity-judges)
+      (kind-gives 2 (3 ∷ kinds) pressure (temperature ∷ rows) (body-judges 2 12 SetWrong (set-judges 12))
+      (kind-gives 3 kinds temperature rows (body-judges 3 13 SetWrong (set-judges 13)) others))
+
+  abbrev bodyRows : (level : ℕ) → List Row
+  bodyRows level = identity ∷ pressure ∷ temperature ∷ trim level ∷ note level ∷ []
+
+  bodies-give : Gives (bodyRows level) (bodiesVerdict level (sections image))
+  unfolding kindVerdict kindsVerdict
+  bodies-give = by known
+    where
+      by : IsLevel level → Gives (bodyRows level) (bodiesVerdict level (sections image))
+      by (inl one) = rw one (first-kinds-give (trim 1 ∷ note 1 ∷ []) [] (λ d g. omega (arith, g .1 .0), (λ d g. omega (arith, g .1 .0), tt)))
+      by (inr two) =
+          rw two
+          (first-kinds-give (trim 2 ∷ note 2 ∷ []) (4 ∷ 129 ∷ [])
+          (kind-gives 4 (129 ∷ []) (trim 2) (note 2 ∷ []) (also-judges 4 15 TrimWrong trim-judges (2 ≡ 2) refl)
+          (kind-gives 129 [] (note 2) [] (also-judges 129 16 NoteWrong note-judges (2 ≡ 2) refl) tt)))
 
   sections-give : Gives (sectionsTable level image) (sectionsVerdict level (sections image))
-  unfolding sections sectionsVerdict bodiesVerdict kindVerdict
+  unfolding sections sectionsVerdict
   sections-give =
       let ss = sections image in
-      let unknown = lowest 9 (UnknownLow level image) in
       let missing = lowest 10 (Missing image) in
-      let identity = row 11 0 (BodyWrong image 1 IdentityWrong) in
-      let pressure = row 12 0 (BodyWrong image 2 SetWrong) in
-      let temperature = row 13 0 (BodyWrong image 3 SetWrong) in
-      let trim = row 15 0 ((level ≡ 2) × BodyWrong image 4 TrimWrong) in
-      let note = row 16 0 ((level ≡ 2) × BodyWrong image 129 NoteWrong) in
-      let v1 = bodyVerdict level 1 ss in
-      let v2 = bodyVerdict level 2 ss in
-      let v3 = bodyVerdict level 3 ss in
-      let v4 = bodyVerdict level 4 ss in
-      let v129 = bodyVerdict level 129 ss in
-      gives-then unknown (missing ∷ identity ∷ pressure ∷ temperature ∷ trim ∷ note ∷ []) (unknownVerdict level ss)
-      (andThen (missingVerdict ss) (bodiesVerdict level ss))
+      gives-then (lowest 9 (UnknownLow level image)) (missing ∷ bodyRows level) (unknownVerdict level ss) (andThen (missingVerdict ss) (bodiesVerdict level ss))
       (unknown-judges (lineCount image) 0 0 (omega arith) (sections-ascend image good) (λ j h. absurd (omega arith)))
-      (λ a. gives-then missing (identity ∷ pressure ∷ temperature ∷ trim ∷ note ∷ []) (missingVerdict ss) (bodiesVerdict level ss) missing-judges
-      (λ b. gives-then identity (pressure ∷ temperature ∷ trim ∷ note ∷ []) v1 (andThen v2 (andThen v3 (andThen v4 v129)))
-      (first-judges 1 11 IdentityWrong identity-judges (omega arith) (omega arith))
-      (λ c. gives-then pressure (temperature ∷ trim ∷ note ∷ []) v2 (andThen v3 (andThen v4 v129))
-      (first-judges 2 12 SetWrong (set-judges 12) (omega arith) (omega arith))
-      (λ d. gives-then temperature (trim ∷ note ∷ []) v3 (andThen v4 v129)
-      (first-judges 3 13 SetWrong (set-judges 13) (omega arith) (omega arith))
-      (λ e. gives-then trim (note ∷ []) v4 v129 (second-judges 4 15 TrimWrong trim-judges (omega arith) (inl refl))
-      (λ f. judged-alone note v129 (second-judges 129 16 NoteWrong note-judges (omega arith) (inr refl))))))))
+      (λ a. gives-then missing (bodyRows level) (missingVerdict ss) (bodiesVerdict level ss) missing-judges (λ b. bodies-give))
 
 -- ---- the whole verdict
 

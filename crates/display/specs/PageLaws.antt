@@ -25,7 +25,7 @@ use Rattle.bodies.specs.Identity.{identityOf}
 use Rattle.sets.specs.declared.Set.{Set}
 use Rattle.sets.specs.Set.{setOf}
 use Rattle.panel.specs.Verdict.{verdictOf}
-use Rattle.panel.specs.LinesLaws.{verdict-leads}
+use Rattle.panel.specs.GoodLayoutLaws.{accepted-first-kinds}
 use Rattle.display.specs.Words.{field, twoDigits}
 use Rattle.display.specs.Page.{refusedWords, identityWords, setsWords, acceptedWords, levelLine, textRefused, pageOf}
 use Rattle.display.specs.WordsLaws.{Printed, printed-then}
@@ -34,7 +34,7 @@ use Rattle.display.specs.WordsLaws.{Printed, printed-then}
 
 -- a panel accepts no image whose layout is not good
 pub verdict-laid : (level : ℕ) (image : List ℕ) (verdict : Verdict) → verdict ≡ verdictOf level image → verdict ≡ Accepted → layoutVerdict image ≡ Accepted
-verdict-laid level image verdict e a = verdict-leads level image verdict e a .good
+verdict-laid level image verdict e a = accepted-first-kinds level image verdict e a .good
 
 module _ (at m end : ℕ) (d d₁ d₂ : List ℕ) where
   pub accepted-printed : (image first second third : RefT (List ℕ)) (identity : Identity) (p t : Set)

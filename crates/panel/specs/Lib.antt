@@ -3,7 +3,7 @@ pub mod Verdict
 pub mod Reading
 pub mod Load
 pub mod LevelsLaws
-pub mod LinesLaws
+pub mod GoodLayoutLaws
 pub mod BodiesLaws
 pub mod VerdictLaws
 pub mod ReadingLaws

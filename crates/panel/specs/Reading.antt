@@ -7,13 +7,13 @@ use Rattle.refusals.specs.declared.Verdict.the-variants.{Accepted, Refused as N
 use Rattle.image.specs.Sections.{Section, sections}
 use Rattle.image.specs.Find.{bodyOf, orElse}
 use Rattle.bodies.specs.Identity.{identityOf}
-use Rattle.sets.specs.Set.{setOf, gridOf}
 use Rattle.bodies.specs.Trim.{trimOf}
 use Rattle.reading.specs.declared.Counts.{Counts}
 use Rattle.reading.specs.declared.Answer.{Answer}
 use Rattle.reading.specs.declared.Answer.the-variants.{Refused}
 use Rattle.reading.specs.declared.Trimming.{Trimming}
 use Rattle.reading.specs.declared.Trimming.the-variants.{Untrimmed, By}
+use Rattle.reading.specs.Gauge.{Gauge, gaugeOf}
 use Rattle.reading.specs.Measured.{measuredOf}
 use Rattle.panel.specs.Verdict.{verdictOf}
 
@@ -24,13 +24,12 @@ abbrev pub trimmingOf : Option (List ℕ) → Trimming
 trimmingOf none = Untrimmed
 trimmingOf (some body) = By (trimOf body)
 
+-- what the sections say of their gauge
+abbrev pub sectionsGauge : List Section → Gauge
+sectionsGauge ss = gaugeOf (identityOf (bodyIn 1 ss)) (bodyIn 2 ss) (bodyIn 3 ss) (trimmingOf (bodyOf 4 ss))
+
 unfoldable pub sectionsReading : List Section → Counts → Answer
-sectionsReading ss counts =
-    measuredOf counts
-    (identityOf (bodyIn 1 ss))
-    (setOf (bodyIn 2 ss)) (gridOf (bodyIn 2 ss))
-    (setOf (bodyIn 3 ss)) (gridOf (bodyIn 3 ss))
-    (trimmingOf (bodyOf 4 ss))
+sectionsReading ss counts = measuredOf counts (sectionsGauge ss)
 
 abbrev pub afterVerdict : Verdict → Answer → Answer
 afterVerdict Accepted answer = answer

@@ -14,7 +14,7 @@ use Rattle.bodies.specs.Identity.{identityVerdict}
 use Rattle.sets.specs.Set.{setVerdict}
 use Rattle.bodies.specs.Trim.{trimVerdict}
 use Rattle.bodies.specs.Note.{noteVerdict}
-use Rattle.panel.specs.Levels.{isLevel, knows, mayPass}
+use Rattle.panel.specs.Levels.{isLevel, kindsOfLevel, mayPass}
 
 -- 20
 abbrev pub levelVerdict : (level : ℕ) → Verdict
@@ -32,7 +32,7 @@ presentVerdict kind ss = ask (isThere (bodyOf kind ss)) 10 kind
 unfoldable pub missingVerdict : List Section → Verdict
 missingVerdict ss = andThen (presentVerdict 1 ss) (andThen (presentVerdict 2 ss) (presentVerdict 3 ss))
 
--- 11, 12, 13, 15, 16: the body of each kind that some level knows
+-- 11, 12, 13, 15, 16: the body of a kind
 unfoldable pub kindVerdict : (kind : ℕ) → (body : List ℕ) → Verdict
 kindVerdict kind body =
     cond (eqb kind 1) (identityVerdict body)
@@ -47,17 +47,14 @@ abbrev pub thereVerdict : (List ℕ → Verdict) → Option (List ℕ) → Verdi
 thereVerdict verdict none = Accepted
 thereVerdict verdict (some body) = verdict body
 
--- and where the level knows its kind
-unfoldable pub bodyVerdict : (level kind : ℕ) → List Section → Verdict
-bodyVerdict level kind ss = cond (knows level kind) (thereVerdict (kindVerdict kind) (bodyOf kind ss)) Accepted
+-- the bodies of these kinds, in their order
+unfoldable pub kindsVerdict : (kinds : List ℕ) → List Section → Verdict
+kindsVerdict [] ss = Accepted
+kindsVerdict (kind ∷ kinds) ss = andThen (thereVerdict (kindVerdict kind) (bodyOf kind ss)) (kindsVerdict kinds ss)
 
-unfoldable pub bodiesVerdict : (level : ℕ) → List Section → Verdict
-bodiesVerdict level ss =
-    andThen (bodyVerdict level 1 ss)
-    (andThen (bodyVerdict level 2 ss)
-    (andThen (bodyVerdict level 3 ss)
-    (andThen (bodyVerdict level 4 ss)
-    (bodyVerdict level 129 ss))))
+-- the bodies of the kinds that the level knows
+abbrev pub bodiesVerdict : (level : ℕ) → List Section → Verdict
+bodiesVerdict level ss = kindsVerdict (kindsOfLevel level) ss
 
 unfoldable pub sectionsVerdict : (level : ℕ) → List Section → Verdict
 sectionsVerdict level ss = andThen (unknownVerdict level ss) (andThen (missingVerdict ss) (bodiesVerdict level ss))

@@ -5,7 +5,7 @@ use mathlib.Core.List.{List}
 use Prim.Native.Nat.{ℕ, _+_, _-_, _≤_, _<_}
 use native.Mathlib.Nat.{sub-zero}
 use native.Mathlib.Omega.{arith}
-use borrow.Author.Tests.{not-true, not-false}
+use borrow.Author.Tests.{not-true, not-false, ne-eqb}
 use Rattle.laws.specs.Cases.{split}
 use Rattle.laws.specs.Loops.{one-left, none-left}
 use Rattle.refusals.specs.declared.Refusal.{Refusal}
@@ -23,9 +23,9 @@ use Rattle.bodies.specs.Trim.{trimVerdict}
 use Rattle.bodies.specs.Note.{noteVerdict}
 use Rattle.contents.specs.declared.ContentsLine.{ContentsLine}
 use Rattle.contents.specs.Lines.{lineAt}
-use Rattle.panel.specs.Levels.{isLevel, knows, mayPass}
+use Rattle.panel.specs.Levels.{isLevel, kindsOfLevel, knows, mayPass}
 use Rattle.panel.specs.Verdict.{levelVerdict, unknownVerdict, presentVerdict, kindVerdict, bodiesVerdict}
-use Rattle.panel.specs.BodiesLaws.{lineVerdict, sectionBySection, not-judged, bodies-in-order}
+use Rattle.panel.specs.BodiesLaws.{lineVerdict, sectionBySection, bodies-in-order}
 
 pub level-passes : (level : ℕ) (b : Bool) → b ≡ isLevel level → b ≡ true → Accepted ≡ levelVerdict level
 level-passes level b e t = rw (← e, t)
@@ -105,7 +105,15 @@ module _ (kind : ℕ) (body : List ℕ) where
   as-lower h = let k : kind ≡ 0 = omega arith in rw k
 
   pub as-higher : 4 ≤ kind → (kind ≡ 4 → ⊥) → (kind ≡ 129 → ⊥) → Accepted ≡ kindVerdict kind body
-  as-higher h four note = sym (not-judged kind body ((λ e. omega arith), ((λ e. omega arith), ((λ e. omega arith), (four, (note, tt))))))
+  unfolding kindVerdict
+  as-higher h four note =
+      rw (
+        ne-eqb kind 1 (λ e. omega arith),
+        ne-eqb kind 2 (λ e. omega arith),
+        ne-eqb kind 3 (λ e. omega arith),
+        ne-eqb kind 4 four,
+        ne-eqb kind 129 note,
+      )
 
 module _ (image : List ℕ) (level i : ℕ) (line : ContentsLine) (l : line ≡ lineAt image i) (b : Bool) (e : b ≡ knows level (line .kind)) where
   known : knows level (kindAt image i) ≡ b
@@ -117,15 +125,16 @@ module _ (image : List ℕ) (level i : ℕ) (line : ContentsLine) (l : line ≡ 
   pub body-judged : not b ≡ false → (body : List ℕ) (r : Verdict) → body ≡ bodyAt image i → r ≡ kindVerdict (line .kind) body → r ≡ lineVerdict level image i
   body-judged t body r h v = rw (known, not-false b t, ← h) (rw l at v)
 
-module _ (image : List ℕ) (level count i : ℕ) (p : Passing (sectionBySection level) image count i) where
+module _ (image : List ℕ) (level count i : ℕ) (p : Passing (sectionBySection (kindsOfLevel level)) image count i) where
   module _ (more : i < count) (v : Verdict) (e : v ≡ lineVerdict level image i) where
-    pub bodies-more : v ≡ Accepted → Passing (sectionBySection level) image count (i + 1)
-    unfolding sectionBySection sectionsFrom
+    pub bodies-more : v ≡ Accepted → Passing (sectionBySection (kindsOfLevel level)) image count (i + 1)
+    unfolding sectionBySection sectionsFrom knows
     bodies-more a = record { rest = rw (one-left count i more, ← e, a) at (p .rest) }
 
     pub body-refused : layoutVerdict image ≡ Accepted → (r : Refusal) → v ≡ Refused r → v ≡ bodiesVerdict level (sections image)
-    unfolding sectionBySection sectionsFrom
-    body-refused good r a = rw (bodies-in-order level (sections image) (sections-ascend image good), a) (rw (one-left count i more, ← e, a) at (p .rest))
+    unfolding sectionBySection sectionsFrom knows
+    body-refused good r a =
+        rw (bodies-in-order level (sections image) (sections-ascend image good), a) (rw (one-left count i more, ← e, a) at (p .rest))
 
   pub bodies-passed : layoutVerdict image ≡ Accepted → count ≤ i → Accepted ≡ bodiesVerdict level (sections image)
   unfolding sectionBySection sectionsFrom

@@ -1,3 +1,4 @@
+// The levels of panels, and the kinds that each knows or may pass over.
 ghost use mathlib.Core.Path.{_≡_};
 ghost use Rattle.panel.specs.Levels.{isLevel, knows as knowsKind, mayPass};
 
@@ -46,5 +47,5 @@ pub fn may_pass(level: u32, kind: u32) -> bool
     if knows(level, kind) {
         return true;
     }
-    128 <= kind
+    limits::LOWEST_PASSED_OVER <= kind
 }

@@ -3,8 +3,8 @@
 // Which kinds a level knows.
 mod levels;
 
-// The contents lines of an image whose layout is good.
-mod lines;
+// The contents lines and bodies of an image whose layout is good.
+mod good_layout;
 
 // The verdict on an image.
 mod verdicts;

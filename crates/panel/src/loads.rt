@@ -1,3 +1,4 @@
+// The load of a text: read, then judged.
 use crate::verdicts::verdict;
 use refusals::Filled;
 use refusals::Verdict;
@@ -22,9 +23,9 @@ fn keep_accepted(level: u32, image: &mut [u8], size: usize) -> Filled
 pub fn load(text: &[u8], level: u32, image: &mut [u8]) -> Filled
     ensures { λ r. ⌜ Fills (loadText level (length (now (image .entry))) (now (text .entry))) (now (image .entry)) r (now (image .exit)) ⌝ }
 {
-    let told = hexread::read(text, image);
-    match told {
+    let answer = hexread::read(text, image);
+    match answer {
         Filled::Length(size) => keep_accepted(level, image, size),
-        Filled::Refused(_) => told,
+        Filled::Refused(_) => answer,
     }
 }

@@ -1,4 +1,5 @@
-use crate::lines;
+// The reading of an image: the verdict, and then what its bodies and the counts come to.
+use crate::good_layout;
 use crate::verdicts::verdict;
 use reading::Answer;
 use reading::Counts;
@@ -7,28 +8,29 @@ use refusals::Verdict;
 ghost use mathlib.Core.Path.{_≡_};
 ghost use Rattle.image.specs.Sections.{sections};
 ghost use Rattle.image.specs.Find.{bodyOf};
-ghost use Rattle.panel.specs.LinesLaws.{FirstKindsPresent};
+ghost use Rattle.panel.specs.GoodLayoutLaws.{FirstKindsPresent};
 ghost use Rattle.panel.specs.Reading.{trimmingOf, sectionsReading, readingOf};
 
 fn trimming(image: &[u8]) -> Trimming
     requires { ⌜ FirstKindsPresent (now image) 3 ⌝ }
     ensures { λ r. ⌜ r ≡ trimmingOf (bodyOf 4 (sections (now (image .entry)))) ⌝ }
 {
-    if !lines::has_next(image, 3) {
+    let line = good_layout::line_of_kind(image, 3, 4);
+    if contents::line_count(image) <= line {
         return Trimming::Untrimmed;
     }
-    Trimming::By(bodies::read_trim(lines::body(image, 3)))
+    Trimming::By(bodies::read_trim(good_layout::body_unchecked(image, line)))
 }
 
-fn measured(image: &[u8], counts: Counts) -> Answer
+fn accepted_reading(image: &[u8], counts: Counts) -> Answer
     requires { ⌜ FirstKindsPresent (now image) 3 ⌝ }
     ensures { λ r. ⌜ r ≡ sectionsReading (sections (now (image .entry))) counts ⌝ }
 {
     reading::measured(
         counts,
-        bodies::read_identity(lines::body(image, 0)),
-        lines::body(image, 1),
-        lines::body(image, 2),
+        bodies::read_identity(good_layout::body_unchecked(image, 0)),
+        good_layout::body_unchecked(image, 1),
+        good_layout::body_unchecked(image, 2),
         trimming(image),
     )
 }
@@ -39,7 +41,7 @@ pub fn reading(image: &[u8], level: u32, counts: Counts) -> Answer
 {
     let judged = verdict(image, level);
     match judged {
-        Verdict::Accepted => measured(image, counts),
+        Verdict::Accepted => accepted_reading(image, counts),
         Verdict::Refused(refusal) => Answer::Refused(refusal),
     }
 }

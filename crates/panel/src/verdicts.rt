@@ -1,11 +1,12 @@
+// The verdict on an image: 20, then 5 to 13, 15, 16, each finished for the whole image before the next.
+use crate::good_layout;
 use crate::levels;
-use crate::lines;
 use refusals::Verdict;
 use refusals::refused;
 ghost use mathlib.Core.Path.{_≡_};
 ghost use Rattle.image.specs.Layout.{layoutVerdict};
 ghost use Rattle.image.specs.Sections.{sections};
-ghost use Rattle.panel.specs.LinesLaws.{HasLine};
+ghost use Rattle.panel.specs.GoodLayoutLaws.{HasLine};
 ghost use Rattle.panel.specs.BodiesLaws.{lineVerdict};
 ghost use Rattle.panel.specs.Verdict.{levelVerdict, unknownVerdict, missingVerdict, kindVerdict, bodiesVerdict, sectionsVerdict, verdictOf};
 
@@ -27,7 +28,7 @@ fn unknown_verdict(image: &[u8], level: u32) -> Verdict
     let count = contents::line_count(image);
     let mut i: usize = 0;
     while i < count {
-        let line = lines::stated(image, i);
+        let line = good_layout::line_unchecked(image, i);
         let kind = line.kind as u32;
         if !levels::may_pass(level, kind) {
             return refused(9, kind as u64);
@@ -42,13 +43,13 @@ fn missing_verdict(image: &[u8]) -> Verdict
     requires { ⌜ layoutVerdict (now image) ≡ Verdict.Accepted ⌝ }
     ensures { λ r. ⌜ r ≡ missingVerdict (sections (now (image .entry))) ⌝ }
 {
-    if !lines::has_next(image, 0) {
+    if !good_layout::next_kind_present(image, 0) {
         return refused(10, 1);
     }
-    if !lines::has_next(image, 1) {
+    if !good_layout::next_kind_present(image, 1) {
         return refused(10, 2);
     }
-    if !lines::has_next(image, 2) {
+    if !good_layout::next_kind_present(image, 2) {
         return refused(10, 3);
     }
     Verdict::Accepted
@@ -72,12 +73,12 @@ fn line_verdict(image: &[u8], level: u32, line: usize) -> Verdict
     requires { ⌜ HasLine (now image) line ⌝ }
     ensures { λ r. ⌜ r ≡ lineVerdict level (now (image .entry)) line ⌝ }
 {
-    let said = lines::stated(image, line);
+    let said = good_layout::line_unchecked(image, line);
     let kind = said.kind as u32;
     if !levels::knows(level, kind) {
         return Verdict::Accepted;
     }
-    kind_verdict(kind, lines::body(image, line))
+    kind_verdict(kind, good_layout::body_unchecked(image, line))
 }
 
 // Refusals 11, 12, 13, 15, 16, in one walk over the contents lines: their kinds rise as these numbers do.
@@ -121,7 +122,7 @@ pub fn verdict(image: &[u8], level: u32) -> Verdict
     let Verdict::Accepted = known else {
         return known;
     };
-    // taken anew: handed on as it came, it would be copied in one piece, for which a processor waits
+    // re-sliced: passing the fat pointer on as it came causes a store-forwarding stall
     let laid = layout::layout(&image[..]);
     let Verdict::Accepted = laid else {
         return laid;

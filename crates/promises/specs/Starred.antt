@@ -24,7 +24,8 @@ use Rattle.sets.specs.Set.{setOf, setFields, setVerdict, rowFrom, rowsFrom, gri
 use Rattle.reading.specs.declared.value.Value.the-variants.{Known, Refused}
 use Rattle.reading.specs.Value.{within}
 use Rattle.reading.specs.Frequency.{frequencyOf, scaledOf, prescaledOf}
-use Rattle.reading.specs.Polynomial.{stepOf, rowSum, gridSum, setResult}
+use Rattle.reading.specs.Gauge.{calibratedSet}
+use Rattle.reading.specs.Polynomial.{nestedSum, stepOf, rowSum, rowStep, gridSum, setResult}
 use Rattle.reading.specs.Measured.{trimmedBy}
 use Rattle.reading.specs.Examples.{frequency-whole, frequency-half, frequency-lowest, frequency-highest, frequency-too-low, frequency-too-high, frequency-of-77}
 
@@ -102,7 +103,7 @@ starred =
     ∷ (prescaledOf 2 (setOf starredSet .temperature) ft says Known xt)
     ∷ (rowSum 2 xt (rowFrom starredSet 0 5 0) says Known (pos 6520832))
     ∷ (rowSum 2 xt (rowFrom starredSet 1 5 0) says Known (pos 131071))
-    ∷ (setResult 2 1 (setOf starredSet) (gridOf starredSet) fp ft says Known (pos 6586368))
+    ∷ (setResult 2 1 (calibratedSet starredSet) fp ft says Known (pos 6586368))
     -- 65,536,000 (1,000 psi) with span 18,507,980, zero 0
     ∷ (trimmedBy (trimOf starredTrim) (pos 65536000) says pos 4518550)
     -- the bytes 51 01: as a text, its length, as an image; and with AD
@@ -118,7 +119,7 @@ starred =
 -- Every one of them holds.
 pub starred-hold : Hold starred
 unfolding littleEndian numberAt twosComplement rounded setOf rowFrom rowsFrom trimOf
-    within scaledOf prescaledOf stepOf rowSum gridSum setResult trimmedBy
+    within scaledOf prescaledOf nestedSum stepOf rowStep setResult trimmedBy
 starred-hold =
     frequency-whole and frequency-half
     and frequency-lowest and frequency-highest and frequency-too-low and frequency-too-high and frequency-of-77

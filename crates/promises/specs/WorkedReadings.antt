@@ -23,10 +23,10 @@ use Rattle.reading.specs.declared.Answer.{Answer}
 use Rattle.reading.specs.declared.Answer.the-variants.{Shown, Refused}
 use Rattle.reading.specs.Value.{within}
 use Rattle.reading.specs.Frequency.{hertz, frequencyOf, scaledOf, prescaledOf}
-use Rattle.reading.specs.Polynomial.{stepOf, rowSum, gridSum, setResult}
+use Rattle.reading.specs.Polynomial.{nestedSum, stepOf, rowStep, setResult}
 use Rattle.reading.specs.Measured.{outside, markOf, trimmedBy, shownBy, measuredOf}
 use Rattle.panel.specs.Levels.{knows}
-use Rattle.panel.specs.Verdict.{unknownVerdict, missingVerdict, kindVerdict, bodyVerdict, bodiesVerdict, sectionsVerdict, verdictOf}
+use Rattle.panel.specs.Verdict.{unknownVerdict, missingVerdict, kindVerdict, kindsVerdict, sectionsVerdict, verdictOf}
 use Rattle.panel.specs.Reading.{sectionsReading, readingOf}
 use Rattle.paper.specs.WorkedImage.{identityBytes, pressureBytes, temperatureBytes, trimBytes, noteBytes, workedImage, untrimmedImage}
 
@@ -35,8 +35,8 @@ workedOut : (level : ℕ) → (image : List ℕ) → Counts → Answer
 unfolding total littleEndian numberAt twosComplement rounded fieldsVerdict fieldsFrom
     startVerdict countVerdict linesVerdict contentsVerdict sumsVerdict layoutVerdict sectionsFrom sections bodyOf
     daysIn identityOf identityFields setOf setFields rowFrom rowsFrom trimOf trimFields noteFields
-    within hertz frequencyOf scaledOf prescaledOf stepOf rowSum gridSum setResult outside markOf trimmedBy shownBy measuredOf
-    knows unknownVerdict missingVerdict kindVerdict bodyVerdict bodiesVerdict sectionsVerdict verdictOf sectionsReading readingOf
+    within hertz frequencyOf scaledOf prescaledOf nestedSum stepOf rowStep setResult outside markOf trimmedBy shownBy measuredOf
+    knows unknownVerdict missingVerdict kindVerdict kindsVerdict sectionsVerdict verdictOf sectionsReading readingOf
 workedOut level image counts = readingOf level image counts
 
 -- ---- what the bytes say

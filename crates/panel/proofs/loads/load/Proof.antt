@@ -6,8 +6,8 @@ use Rattle.panel.proofs.loads.load.Tie as tie
 read-requires : tie.Need-read-requires
 read-requires c κs = search needs
 
-enum-known-told : tie.Need-enum-known-told
-enum-known-told c = search needs
+enum-known-answer : tie.Need-enum-known-answer
+enum-known-answer c = search needs
 
 keep-accepted-requires : tie.Need-keep-accepted-requires
 keep-accepted-requires c κs = search needs
@@ -32,7 +32,7 @@ load-spec =
     tie.close
     (tie.spec
     read-requires
-    enum-known-told
+    enum-known-answer
     keep-accepted-requires
     enum-told
     same-length

@@ -1,5 +1,5 @@
 use borrow.Author.Needs.{needs}
-use Rattle.panel.specs.LinesLaws.{verdict-leads}
+use Rattle.panel.specs.GoodLayoutLaws.{accepted-first-kinds}
 use Rattle.panel.specs.ReadingLaws.{reading-taken, reading-refused}
 use Rattle.panel.proofs.readings.reading.Statement.{statement}
 use Rattle.panel.proofs.readings.reading.Tie as tie
@@ -10,8 +10,8 @@ verdict-requires c κs = search needs
 enum-told : tie.Need-enum-told
 enum-told c = search needs
 
-measured-requires : tie.Need-measured-requires
-measured-requires c κs = search (needs, verdict-leads)
+accepted-reading-requires : tie.Need-accepted-reading-requires
+accepted-reading-requires c κs = search (needs, accepted-first-kinds)
 
 enum-known-judged : tie.Need-enum-known-judged
 enum-known-judged c = search needs
@@ -25,4 +25,4 @@ returns-2 c = search (needs, reading-refused)
 pub reading-spec : {M : Type 1} → statement M
 reading-spec =
     tie.close
-    (tie.spec verdict-requires enum-told measured-requires enum-known-judged returns returns-2)
+    (tie.spec verdict-requires enum-told accepted-reading-requires enum-known-judged returns returns-2)

@@ -1,7 +1,8 @@
 use Prim.Native.Nat.{_-_}
 use borrow.Author.Needs.{needs}
+use Rattle.panel.specs.Levels.{kindsOfLevel}
 use Rattle.panel.specs.BodiesLaws.{sectionBySection}
-use Rattle.panel.specs.LinesLaws.{has-line}
+use Rattle.panel.specs.GoodLayoutLaws.{has-line}
 use Rattle.panel.specs.VerdictLaws.{Passing, passing-first, bodies-more, body-refused, bodies-passed}
 use Rattle.panel.proofs.verdicts.bodies_verdict.Statement.{statement}
 use Rattle.panel.proofs.verdicts.bodies_verdict.Tie as tie
@@ -9,7 +10,7 @@ use Rattle.panel.proofs.verdicts.bodies_verdict.Tie as tie
 ruleset laws = (needs, has-line, passing-first, bodies-more, body-refused, bodies-passed)
 
 abbrev Inv-loop : tie.InvT-loop
-Inv-loop image level count line₀ line = Passing (sectionBySection level) image count line
+Inv-loop image level count line₀ line = Passing (sectionBySection (kindsOfLevel level)) image count line
 
 abbrev μ-loop : tie.MeasureT-loop
 μ-loop image level count line₀ line = count - line

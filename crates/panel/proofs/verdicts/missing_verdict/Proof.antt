@@ -1,15 +1,15 @@
 use borrow.Author.Needs.{needs}
 use Rattle.refusals.specs.VerdictLaws.{stops-there}
 use Rattle.panel.specs.Verdict.{missingVerdict}
-use Rattle.panel.specs.LinesLaws.{none-leads, first-leads, second-leads}
+use Rattle.panel.specs.GoodLayoutLaws.{no-kinds-yet, first-kind-there, second-kind-there}
 use Rattle.panel.specs.VerdictLaws.{is-missing, next-after, is-present}
 use Rattle.panel.proofs.verdicts.missing_verdict.Statement.{statement}
 use Rattle.panel.proofs.verdicts.missing_verdict.Tie as tie
 
 ruleset laws = (needs, stops-there, is-missing, next-after, is-present)
 
-has-next-requires : tie.Need-has-next-requires
-has-next-requires c κs = search (needs, none-leads)
+next-kind-present-requires : tie.Need-next-kind-present-requires
+next-kind-present-requires c κs = search (needs, no-kinds-yet)
 
 refused-requires : tie.Need-refused-requires
 refused-requires c κs = search laws
@@ -18,8 +18,8 @@ returns : tie.Need-returns
 unfolding missingVerdict
 returns c = search laws
 
-has-next-requires-2 : tie.Need-has-next-requires-2
-has-next-requires-2 c κs = search (needs, first-leads)
+next-kind-present-requires-2 : tie.Need-next-kind-present-requires-2
+next-kind-present-requires-2 c κs = search (needs, first-kind-there)
 
 refused-requires-2 : tie.Need-refused-requires-2
 refused-requires-2 c κs = search laws
@@ -28,10 +28,10 @@ returns-2 : tie.Need-returns-2
 unfolding missingVerdict
 returns-2 c = search laws
 
-has-next-requires-3 : tie.Need-has-next-requires-3
-has-next-requires-3 c κs =
+next-kind-present-requires-3 : tie.Need-next-kind-present-requires-3
+next-kind-present-requires-3 c κs =
     let first = c .before .before in
-    second-leads _ (first .before .before .before .pre) _ (first .before .has-next .ensures) (first .if1 .left) _ (c .before .has-next2 .ensures) (c .if2 .left)
+    second-kind-there _ (first .before .before .before .pre) _ (first .before .next-kind-present .ensures) (first .if1 .left) _ (c .before .next-kind-present2 .ensures) (c .if2 .left)
 
 refused-requires-3 : tie.Need-refused-requires-3
 refused-requires-3 c κs = search laws
@@ -48,13 +48,13 @@ pub missing-verdict-spec : {M : Type 1} → statement M
 missing-verdict-spec =
     tie.close
     (tie.spec
-    has-next-requires
+    next-kind-present-requires
     refused-requires
     returns
-    has-next-requires-2
+    next-kind-present-requires-2
     refused-requires-2
     returns-2
-    has-next-requires-3
+    next-kind-present-requires-3
     refused-requires-3
     returns-3
     returns-4)

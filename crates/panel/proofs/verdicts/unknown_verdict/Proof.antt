@@ -2,7 +2,7 @@ use mathlib.Core.Path.{_∙_}
 use Prim.Native.Nat.{_-_}
 use borrow.Author.Needs.{needs}
 use Rattle.panel.specs.Verdict.{unknownVerdict}
-use Rattle.panel.specs.LinesLaws.{has-line}
+use Rattle.panel.specs.GoodLayoutLaws.{has-line}
 use Rattle.panel.specs.VerdictLaws.{Passing, passing-first, passing-more, unknown-here, none-unknown}
 use Rattle.panel.proofs.verdicts.unknown_verdict.Statement.{statement}
 use Rattle.panel.proofs.verdicts.unknown_verdict.Tie as tie
@@ -21,8 +21,8 @@ line-count-requires c κs = search laws
 loop-holds : tie.Need-loop-holds Inv-loop μ-loop
 loop-holds c = search laws
 
-stated-requires : tie.Need-stated-requires Inv-loop μ-loop
-stated-requires c κs = search laws
+line-unchecked-requires : tie.Need-line-unchecked-requires Inv-loop μ-loop
+line-unchecked-requires c κs = search laws
 
 cast-kind : tie.Need-cast-kind Inv-loop μ-loop
 cast-kind c = search laws
@@ -59,7 +59,7 @@ unknown-verdict-spec =
     μ-loop
     line-count-requires
     loop-holds
-    stated-requires
+    line-unchecked-requires
     cast-kind
     may-pass-requires
     cast-refused

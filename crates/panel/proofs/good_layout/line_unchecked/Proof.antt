@@ -1,7 +1,7 @@
 use borrow.Author.Needs.{needs}
 use Rattle.contents.specs.LinesLaws.{whole-line}
-use Rattle.panel.proofs.lines.stated.Statement.{statement}
-use Rattle.panel.proofs.lines.stated.Tie as tie
+use Rattle.panel.proofs.good_layout.line_unchecked.Statement.{statement}
+use Rattle.panel.proofs.good_layout.line_unchecked.Tie as tie
 
 ruleset laws = (needs, whole-line)
 
@@ -29,8 +29,8 @@ line-in-requires c κs = search laws
 returns : tie.Need-returns
 returns c = search laws
 
-pub stated-spec : {M : Type 1} → statement M
-stated-spec =
+pub line-unchecked-spec : {M : Type 1} → statement M
+line-unchecked-spec =
     tie.close
     (tie.spec
     mul-place

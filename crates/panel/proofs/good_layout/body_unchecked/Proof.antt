@@ -1,12 +1,12 @@
 use borrow.Author.Needs.{needs}
-use Rattle.panel.specs.LinesLaws.{body-inside, line-body}
-use Rattle.panel.proofs.lines.body.Statement.{statement}
-use Rattle.panel.proofs.lines.body.Tie as tie
+use Rattle.panel.specs.GoodLayoutLaws.{body-inside, line-body}
+use Rattle.panel.proofs.good_layout.body_unchecked.Statement.{statement}
+use Rattle.panel.proofs.good_layout.body_unchecked.Tie as tie
 
 ruleset laws = (needs, body-inside, line-body)
 
-stated-requires : tie.Need-stated-requires
-stated-requires c κs = search laws
+line-unchecked-requires : tie.Need-line-unchecked-requires
+line-unchecked-requires c κs = search laws
 
 cast-offset : tie.Need-cast-offset
 cast-offset c = search laws
@@ -29,11 +29,11 @@ part-result-end c = search laws
 returns : tie.Need-returns
 returns c = search laws
 
-pub body-spec : {M : Type 1} → statement M
-body-spec =
+pub body-unchecked-spec : {M : Type 1} → statement M
+body-unchecked-spec =
     tie.close
     (tie.spec
-    stated-requires
+    line-unchecked-requires
     cast-offset
     cast-length
     add-result

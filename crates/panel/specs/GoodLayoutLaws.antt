@@ -1,13 +1,13 @@
--- Laws of the contents lines of a good layout: their bytes are there, and the first kinds stand at the first lines.
+-- Laws of the contents lines of a good layout: their bytes are there, the first kinds stand at the first lines, and others after them.
 use mathlib.Core.Path.{_≡_, refl, sym, _∙_}
 use mathlib.Core.Bool.{Bool, true, false, cond, not}
 use mathlib.Core.List.{List}
-use mathlib.Core.Option.{none, some}
+use mathlib.Core.Option.{Option, none, some}
 use Prim.Native.Nat.{ℕ, _+_, _-_, _≤_, _<_}
 use native.Mathlib.Nat.{sub-zero}
 use native.Mathlib.Omega.{arith}
-use borrow.Author.Tests.{eq-eqb, eqb-true, ne-eqb, not-false}
-use lib.Dec.{eqb}
+use borrow.Author.Tests.{eq-eqb, eqb-true, ne-eqb, not-false, lt-ltb, le-ltb}
+use lib.Dec.{eqb, ltb}
 use lib.ListN.{length, take, drop}
 use Rattle.laws.specs.Cases.{split, decide, never}
 use Rattle.laws.specs.Loops.{one-left, none-left}
@@ -52,9 +52,9 @@ pub record FirstKindsPresent (image : List ℕ) (line : ℕ) : Type 0 where
   pub others : (kind : ℕ) → line < kind → bodyOf kind (sections image) ≡ bodyOf kind (sectionsFrom image (lineCount image - line) line)
   pub ascends : Ascending line (sectionsFrom image (lineCount image - line) line)
 
-pub none-leads : (image : List ℕ) → layoutVerdict image ≡ Accepted → FirstKindsPresent image 0
+pub no-kinds-yet : (image : List ℕ) → layoutVerdict image ≡ Accepted → FirstKindsPresent image 0
 unfolding sections
-none-leads image good =
+no-kinds-yet image good =
     record {
       good = good;
       enough = omega arith;
@@ -77,11 +77,12 @@ module _ (line : ℕ) (image : List ℕ) (l : FirstKindsPresent image line) wher
     unfolding bodyOf sectionsFrom
     next-body =
         l .others (line + 1) (omega arith)
-        ∙ rw (one-left (lineCount image) line more, none-below (kindAt image line) (line + 1) (sectionsFrom image (lineCount image - (line + 1)) (line + 1)) (rises .1) (omega (arith, rises .0)))
+        ∙ (let rest = sectionsFrom image (lineCount image - (line + 1)) (line + 1) in
+        rw (one-left (lineCount image) line more, none-below (kindAt image line) (line + 1) rest (rises .1) (omega (arith, rises .0))))
 
-    one-leads : kindAt image line ≡ line + 1 → FirstKindsPresent image (line + 1)
+    one-kind-more : kindAt image line ≡ line + 1 → FirstKindsPresent image (line + 1)
     unfolding bodyOf sectionsFrom
-    one-leads e =
+    one-kind-more e =
         record {
           good = l .good;
           enough = omega arith;
@@ -104,40 +105,80 @@ module _ (line : ℕ) (image : List ℕ) (l : FirstKindsPresent image line) wher
   next-here count said c more k = rw (next-body (omega arith), k) (decide (eqb (line + 1) (kindAt image line)) (λ e. rw e) (λ e. rw e))
 
   module _ (b : Bool) (e : b ≡ isThere (bodyOf (line + 1) (sections image))) (t : not b ≡ false) where
-    pub next-leads : FirstKindsPresent image (line + 1)
-    next-leads =
+    pub next-kind-added : FirstKindsPresent image (line + 1)
+    next-kind-added =
         let there : isThere (bodyOf (line + 1) (sections image)) ≡ true = sym e ∙ not-false b t in
         split (lineCount image) line
         (λ (end : lineCount image ≤ line). never (rw (next-past end) at there))
         (λ (more : line < lineCount image).
         decide (eqb (line + 1) (kindAt image line))
-        (λ f. one-leads more (sym (eqb-true (line + 1) (kindAt image line) f)))
+        (λ f. one-kind-more more (sym (eqb-true (line + 1) (kindAt image line) f)))
         (λ f. never (rw (next-body more, f) at there)))
 
     pub next-line : HasLine image line
-    next-line = has-line image (l .good) (lineCount image) line refl (omega (arith, next-leads .enough))
+    next-line = has-line image (l .good) (lineCount image) line refl (omega (arith, next-kind-added .enough))
 
 module _ (image : List ℕ) (good : layoutVerdict image ≡ Accepted) (b : Bool) (e : b ≡ isThere (bodyOf 1 (sections image))) (t : not b ≡ false) where
-  pub first-leads : FirstKindsPresent image 1
-  first-leads = next-leads 0 image (none-leads image good) b e t
+  pub first-kind-there : FirstKindsPresent image 1
+  first-kind-there = next-kind-added 0 image (no-kinds-yet image good) b e t
 
-  pub second-leads : (c : Bool) → c ≡ isThere (bodyOf 2 (sections image)) → not c ≡ false → FirstKindsPresent image 2
-  second-leads c f u = next-leads 1 image first-leads c f u
+  pub second-kind-there : (c : Bool) → c ≡ isThere (bodyOf 2 (sections image)) → not c ≡ false → FirstKindsPresent image 2
+  second-kind-there c f u = next-kind-added 1 image first-kind-there c f u
 
 pub first-line : (image : List ℕ) (all line : ℕ) → FirstKindsPresent image all → line < all → HasLine image line
 first-line image all line l h = has-line image (l .good) (lineCount image) line refl (omega (arith, l .enough))
 
+-- ---- a kind that need not be there
+
+-- the body of a line, and none past the last
+abbrev pub lineBody : (image : List ℕ) → (line : ℕ) → Option (List ℕ)
+lineBody image line = cond (ltb line (lineCount image)) (some (bodyAt image line)) none
+
+module _ (image : List ℕ) (line : ℕ) where
+  pub line-there : line < lineCount image → lineBody image line ≡ some (bodyAt image line)
+  line-there h = rw (lt-ltb line (lineCount image) h)
+
+  pub line-past : lineCount image ≤ line → lineBody image line ≡ none
+  line-past h = rw (le-ltb line (lineCount image) h)
+
+-- what the walk keeps: no line before this one has the kind
+pub record NotBefore (image : List ℕ) (kind count line : ℕ) : Type 0 where
+  pub later : bodyOf kind (sectionsFrom image (count - line) line) ≡ bodyOf kind (sections image)
+
+module _ (image : List ℕ) (kind : ℕ) (count : ℕ) (c : count ≡ lineCount image) where
+  pub not-before-first : (first : ℕ) → FirstKindsPresent image first → first < kind → NotBefore image kind count first
+  not-before-first first l h = record { later = rw c (sym (l .others kind h)) }
+
+  module _ (line : ℕ) (k : NotBefore image kind count line) where
+    module _ (more : line < count) (said : ContentsLine) (e : said ≡ lineAt image line) where
+      pub not-before-next : (said .kind ≡ kind → ⊥) → NotBefore image kind count (line + 1)
+      unfolding bodyOf sectionsFrom
+      not-before-next n =
+          let other : kind ≡ kindAt image line → ⊥ = λ same. n (rw e (sym same)) in
+          record { later = rw (one-left count line more, ne-eqb kind (kindAt image line) other) at (k .later) }
+
+      pub kind-here : said .kind ≡ kind → lineBody image line ≡ bodyOf kind (sections image)
+      unfolding bodyOf sectionsFrom
+      kind-here same =
+          let this : kind ≡ kindAt image line = sym same ∙ rw e in
+          line-there image line (omega arith) ∙ (rw (one-left count line more, eq-eqb kind (kindAt image line) this) at (k .later))
+
+    pub kind-nowhere : count ≤ line → lineBody image count ≡ bodyOf kind (sections image)
+    unfolding bodyOf sectionsFrom
+    kind-nowhere end = line-past image count (omega arith) ∙ (rw (none-left count line end) at (k .later))
+
 -- ---- where a panel accepts
 
-present-leads : (line : ℕ) (image : List ℕ) → FirstKindsPresent image line → presentVerdict (line + 1) (sections image) ≡ Accepted → FirstKindsPresent image (line + 1)
-present-leads line image l e = next-leads line image l true (sym (asked _ 10 (line + 1) e)) refl
+kind-added : (line : ℕ) (image : List ℕ) → FirstKindsPresent image line → presentVerdict (line + 1) (sections image) ≡ Accepted
+    → FirstKindsPresent image (line + 1)
+kind-added line image l e = next-kind-added line image l true (sym (asked _ 10 (line + 1) e)) refl
 
-pub verdict-leads : (level : ℕ) (image : List ℕ) (v : Verdict) → v ≡ verdictOf level image → v ≡ Accepted → FirstKindsPresent image 3
+pub accepted-first-kinds : (level : ℕ) (image : List ℕ) (v : Verdict) → v ≡ verdictOf level image → v ≡ Accepted → FirstKindsPresent image 3
 unfolding verdictOf sectionsVerdict missingVerdict
-verdict-leads level image v e a =
+accepted-first-kinds level image v e a =
     let passed : verdictOf level image ≡ Accepted = sym e ∙ a in
     let laid : layoutVerdict image ≡ Accepted = search (first-passed, next-passed) in
     let first : presentVerdict 1 (sections image) ≡ Accepted = search (first-passed, next-passed) in
     let second : presentVerdict 2 (sections image) ≡ Accepted = search (first-passed, next-passed) in
     let third : presentVerdict 3 (sections image) ≡ Accepted = search (first-passed, next-passed) in
-    present-leads 2 image (present-leads 1 image (present-leads 0 image (none-leads image laid) first) second) third
+    kind-added 2 image (kind-added 1 image (kind-added 0 image (no-kinds-yet image laid) first) second) third
