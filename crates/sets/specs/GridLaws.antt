@@ -13,7 +13,7 @@ use mir.Syntax.{w64}
 use mir.Val.{Fits}
 use Rattle.numbers.specs.Fields.{signedAt}
 use Rattle.laws.specs.Loops.{Filling, filling-end}
-use Rattle.sets.specs.Set.{pressureOrder, temperatureOrder, coefficientCount, gridPlace, rowFrom, rowsFrom, gridOf}
+use Rattle.sets.specs.Set.{pressureOrder, temperatureOrder, setSize, coefficientPlace, gridPlace, rowFrom, rowsFrom, gridOf}
 use Rattle.sets.specs.SetAsked.{Gridded}
 
 -- ---- a place
@@ -23,23 +23,23 @@ module _ (body : List ℕ) (rows places row place : ℕ) (g : Gridded body rows 
   row-start-small = let h : row ≤ 4 = omega arith in mul-le-mul h (g .few-places)
 
   -- the coefficient of a place that the orders have stands within the body
-  pub place-there : row < rows → place < places → 28 + 8 * (row * places + place) + 8 ≤ length body
+  pub place-there : row < rows → place < places → coefficientPlace (row * places + place) + 8 ≤ length body
   place-there h k = omega (arith, g .long, mul-le-mul-right places h, suc-mul row places)
 
   pub absent-row : rows ≤ row → pos 0 ≡ gridPlace body row place
-  absent-row h = rw (lt-leb row (pressureOrder body) (omega arith), and-false (leb (28 + 8 * coefficientCount body) (length body)))
+  absent-row h = rw (lt-leb row (pressureOrder body) (omega arith), and-false (leb (setSize body) (length body)))
 
   pub absent-place : places ≤ place → pos 0 ≡ gridPlace body row place
   absent-place h =
       rw (
         lt-leb place (temperatureOrder body) (omega arith),
-        and-false (leb (28 + 8 * coefficientCount body) (length body) && leb row (pressureOrder body)),
+        and-false (leb (setSize body) (length body) && leb row (pressureOrder body)),
       )
 
-  pub present-place : (z : ℤ) → row < rows → place < places → z ≡ signedAt 8 body (28 + 8 * (row * places + place)) → z ≡ gridPlace body row place
+  pub present-place : (z : ℤ) → row < rows → place < places → z ≡ signedAt 8 body (coefficientPlace (row * places + place)) → z ≡ gridPlace body row place
   present-place z h k e =
       rw (
-        le-leb (28 + 8 * coefficientCount body) (length body) (rw (g .rows-are, g .places-are) at (g .long)),
+        le-leb (setSize body) (length body) (rw (g .rows-are, g .places-are) at (g .long)),
         le-leb row (pressureOrder body) (omega arith),
         le-leb place (temperatureOrder body) (omega arith),
         ← g .places-are,
@@ -50,7 +50,7 @@ module _ (body : List ℕ) (rows places row place : ℕ) (g : Gridded body rows 
 pub too-short : (body : List ℕ) (x y : ℕ) → x ≡ pressureOrder body → y ≡ temperatureOrder body
     → length body < 28 + 8 * ((x + 1) * (y + 1)) → replicate 5 (replicate 5 (pos 0)) ≡ gridOf body
 unfolding rowsFrom rowFrom
-too-short body x y e f h = rw (lt-leb (28 + 8 * coefficientCount body) (length body) (rw (e, f) at h))
+too-short body x y e f h = rw (lt-leb (setSize body) (length body) (rw (e, f) at h))
 
 -- the length that orders ask for has room
 module _ (rows places : ℕ) (h : rows ≤ 256) (k : places ≤ 256) where

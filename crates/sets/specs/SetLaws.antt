@@ -21,6 +21,7 @@ use Rattle.sets.specs.Set.{
   pressureOrder,
   temperatureOrder,
   coefficientCount,
+  setSize,
   coefficientFields,
   multiplierRight,
   offsetRight,
@@ -72,14 +73,14 @@ module _ (body : List ℕ) (x y count : ℕ) (o : Ordered body x y) (c : count �
   counted : count ≡ coefficientCount body
   counted = rw (o .pressure, o .temperature) at c
 
-  asked : 28 + 8 * count ≡ 28 + 8 * coefficientCount body
+  asked : 28 + 8 * count ≡ setSize body
   asked = ap (λ (n : ℕ). 28 + 8 * n) counted
 
-  pub length-told : length body ≡ 28 + 8 * count → Wrong (eqb (length body) (28 + 8 * coefficientCount body)) false
-  length-told h = equal (length body) (28 + 8 * coefficientCount body) (h ∙ asked)
+  pub length-told : length body ≡ 28 + 8 * count → Wrong (eqb (length body) (setSize body)) false
+  length-told h = equal (length body) (setSize body) (h ∙ asked)
 
-  pub other-length-told : (length body ≡ 28 + 8 * count → ⊥) → Wrong (eqb (length body) (28 + 8 * coefficientCount body)) true
-  other-length-told h = unequal (length body) (28 + 8 * coefficientCount body) (λ g. h (g ∙ sym asked))
+  pub other-length-told : (length body ≡ 28 + 8 * count → ⊥) → Wrong (eqb (length body) (setSize body)) true
+  other-length-told h = unequal (length body) (setSize body) (λ g. h (g ∙ sym asked))
 
   pub coefficients-judged : {number : ℕ} {verdict : Verdict} → verdict ≡ fieldsVerdict number (coefficientFields body count)
       → Judged number (coefficientFields body (coefficientCount body)) verdict
