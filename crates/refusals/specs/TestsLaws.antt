@@ -2,16 +2,14 @@
 -- and the rules by which a search goes through a body's fields.
 use mathlib.Core.Path.{_≡_, sym, ap, _∙_}
 use mathlib.Core.Bool.{Bool, true, false, not, _&&_}
-use Prim.Native.Nat.{ℕ, _^_, _≤_, _<_}
+use Prim.Native.Nat.{ℕ, _≤_, _<_}
 use borrow.Author.Tests.{eq-eqb, ne-eqb, le-leb, lt-leb, leb-true, not-false}
 use lib.Dec.{leb, eqb}
 use lib.IntN.{ℤ, natAbs}
-use lib.Signed.{mag, ltZ, leZ}
-use mir.Syntax.{Width}
-use mir.Val.{toZ, ofZ, hbits}
+use lib.Signed.{ltZ, leZ}
 use Rattle.laws.specs.Cases.{both-left, both-right}
 use Rattle.laws.specs.Order.{less-otherwiseℤ}
-use Rattle.laws.specs.Pattern.{read-back}
+use Rattle.laws.specs.Pattern.{read-as}
 use Rattle.refusals.specs.FieldsVerdictLaws.{
   Wrong,
   judged,
@@ -74,10 +72,6 @@ module _ (b : Bool) (low x high : ℕ) (e : b ≡ not (leb low x && leb x high))
   not-above = leb-true x high (both-right (leb low x) (leb x high) inside)
 
 -- ---- signed numbers
-
--- one is read back from its bits before it is tested or handed on
-pub read-as : (w : Width) (x z : ℤ) → mag x < 2 ^ hbits w → x ≡ z → toZ w (ofZ w x) ≡ z
-read-as w x z h e = read-back w x h ∙ e
 
 pub above-told : (x y least greatest : ℤ) (told : Bool) → x ≡ least → y ≡ greatest → ltZ y x ≡ told → Wrong (leZ least greatest) told
 above-told x y least greatest told e f h = record { tells = sym h ∙ rw (e, f) (less-otherwiseℤ least greatest) }

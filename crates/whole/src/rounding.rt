@@ -1,3 +1,4 @@
+use crate::HIGHEST;
 ghost use mathlib.Core.Path.{_≡_};
 ghost use Prim.Native.Nat.{_+_, _<_, _^_};
 ghost use lib.IntN.{pos};
@@ -26,7 +27,7 @@ fn rounded_over(n: i64, half: u32, power: u32) -> i64
 {
     let more = half as i64;
     // so near the highest number that the sum would not fit
-    if 9223372036854775807 - more < n {
+    if HIGHEST - more < n {
         return ((n - more) >> power) + 1;
     }
     (n + more) >> power
