@@ -20,7 +20,7 @@ ghost use Rattle.bodies.specs.Identity.{identityOf, identityFields, iden
 pub fn read_identity(body: &[u8]) -> Identity
     ensures { λ r. ⌜ r ≡ identityOf (now (body .entry)) ⌝ }
 {
-    // from the last field on: where it is there the compiler knows that the others are
+    // read from the last field on, so that one bounds check serves all fields
     Identity {
         pmax: signed4(body, 20),
         pmin: signed4(body, 16),

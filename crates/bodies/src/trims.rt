@@ -19,7 +19,7 @@ ghost use Rattle.bodies.specs.Trim.{trimOf, trimFields, trimVerdict};
 pub fn read_trim(body: &[u8]) -> Trim
     ensures { λ r. ⌜ r ≡ trimOf (now (body .entry)) ⌝ }
 {
-    // from the last field on, as an identity
+    // read from the last field on, so that one bounds check serves all fields
     Trim {
         zero: signed8(body, 8),
         span: number4(body, 4),

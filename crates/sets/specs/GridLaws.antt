@@ -12,13 +12,13 @@ use lib.ListN.{length, replicate}
 use mir.Syntax.{w64}
 use mir.Val.{Fits}
 use Rattle.numbers.specs.Fields.{signedAt}
-use Rattle.laws.specs.Loops.{Filling, filling-end}
+use Rattle.laws.specs.Loops.{FilledTo, filled-all}
 use Rattle.sets.specs.Set.{pressureOrder, temperatureOrder, setSize, coefficientPlace, gridPlace, rowFrom, rowsFrom, gridOf}
-use Rattle.sets.specs.SetAsked.{Gridded}
+use Rattle.sets.specs.Preconditions.{GridRow}
 
 -- ---- a place
 
-module _ (body : List ℕ) (rows places row place : ℕ) (g : Gridded body rows places row) where
+module _ (body : List ℕ) (rows places row place : ℕ) (g : GridRow body rows places row) where
   pub row-start-small : row * places ≤ 1024
   row-start-small = let h : row ≤ 4 = omega arith in mul-le-mul h (g .few-places)
 
@@ -68,14 +68,14 @@ module _ (body : List ℕ) where
   unfolding rowFrom
   row-next row place left z e = rw e
 
-  pub row-filled : (row place : ℕ) (l : List ℤ) → Filling 5 (rowFrom body row) l place → 5 ≤ place → l ≡ rowFrom body row 5 0
+  pub row-filled : (row place : ℕ) (l : List ℤ) → FilledTo 5 (rowFrom body row) l place → 5 ≤ place → l ≡ rowFrom body row 5 0
   unfolding rowFrom
-  row-filled row place l k h = filling-end 5 (rowFrom body row) l place k h (λ j. refl)
+  row-filled row place l k h = filled-all 5 (rowFrom body row) l place k h (λ j. refl)
 
   pub rows-next : (row left : ℕ) (l : List ℤ) → l ≡ rowFrom body row 5 0 → rowsFrom body (suc left) row ≡ l ∷ rowsFrom body left (row + 1)
   unfolding rowsFrom
   rows-next row left l e = rw e
 
-  pub rows-filled : (row : ℕ) (l : List (List ℤ)) → Filling 5 (rowsFrom body) l row → 5 ≤ row → l ≡ rowsFrom body 5 0
+  pub rows-filled : (row : ℕ) (l : List (List ℤ)) → FilledTo 5 (rowsFrom body) l row → 5 ≤ row → l ≡ rowsFrom body 5 0
   unfolding rowsFrom
-  rows-filled row l k h = filling-end 5 (rowsFrom body) l row k h (λ j. refl)
+  rows-filled row l k h = filled-all 5 (rowsFrom body) l row k h (λ j. refl)

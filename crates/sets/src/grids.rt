@@ -6,7 +6,7 @@ use numbers::fields::number1;
 ghost use mathlib.Core.Path.{_≡_};
 ghost use Prim.Native.Nat.{_<_};
 ghost use Rattle.sets.specs.Set.{gridPlace, rowFrom, gridOf};
-ghost use Rattle.sets.specs.SetAsked.{Gridded};
+ghost use Rattle.sets.specs.Preconditions.{GridRow};
 
 pub fn read_grid(body: &[u8]) -> [[i64; 5]; 5]
     ensures { λ r. ⌜ r ≡ gridOf (now (body .entry)) ⌝ }
@@ -27,7 +27,7 @@ pub fn read_grid(body: &[u8]) -> [[i64; 5]; 5]
 }
 
 fn read_row(body: &[u8], rows: usize, places: usize, row: usize) -> [i64; 5]
-    requires { ⌜ Gridded (now body) rows places row ⌝ }
+    requires { ⌜ GridRow (now body) rows places row ⌝ }
     ensures { λ r. ⌜ r ≡ rowFrom (now (body .entry)) row 5 0 ⌝ }
 {
     let mut coefficients = [0i64; 5];
@@ -41,7 +41,7 @@ fn read_row(body: &[u8], rows: usize, places: usize, row: usize) -> [i64; 5]
 }
 
 fn read_place(body: &[u8], rows: usize, places: usize, row: usize, place: usize) -> i64
-    requires { ⌜ (Gridded (now body) rows places row) × (place < 5) ⌝ }
+    requires { ⌜ (GridRow (now body) rows places row) × (place < 5) ⌝ }
     ensures { λ r. ⌜ r ≡ gridPlace (now (body .entry)) row place ⌝ }
 {
     if rows <= row {

@@ -23,12 +23,12 @@ ghost use lib.Dec.{eqb};
 ghost use lib.ListN.{length, drop};
 ghost use Rattle.refusals.specs.FieldsVerdict.{fieldsVerdict};
 ghost use Rattle.sets.specs.Set.{setOf, setFields, setVerdict, multiplierRight, offsetRight, coefficientFields};
-ghost use Rattle.sets.specs.SetAsked.{Ordered};
+ghost use Rattle.sets.specs.Preconditions.{OrdersRead};
 
 pub fn read_set(body: &[u8]) -> Set
     ensures { λ r. ⌜ r ≡ setOf (now (body .entry)) ⌝ }
 {
-    // from the last field on: where it is there the compiler knows that the others are
+    // read from the last field on, so that one bounds check serves all fields
     let temperature = Prescale {
         offset: number8(body, 20),
         multiplier: number4(body, 16),
@@ -70,7 +70,7 @@ pub fn set_verdict(body: &[u8], number: u32) -> Verdict
 
 // The fields after the orders, which are the body's: its length, multiplier and offset of each prescale, the coefficients.
 fn prescales_verdict(body: &[u8], pressure: u8, temperature: u8, number: u32) -> Verdict
-    requires { ⌜ Ordered (now body) pressure temperature ⌝ }
+    requires { ⌜ OrdersRead (now body) pressure temperature ⌝ }
     ensures { λ r. ⌜ r ≡ fieldsVerdict number (drop 5 (setFields (now (body .entry)))) ⌝ }
 {
     let count = coefficient_count(pressure, temperature);
