@@ -16,7 +16,7 @@ use Rattle.laws.specs.Bytes.{Bytes}
 use Rattle.laws.specs.BytesLaws.{bytes-drop}
 use Rattle.laws.specs.Cases.{split}
 use Rattle.laws.specs.Magnitude.{natural-difference, difference-lt}
-use Rattle.laws.specs.Pattern.{read-as, Exact, exact, past-minus-one}
+use Rattle.laws.specs.SignedBits.{read-as, Exact, exact, past-minus-one}
 use Rattle.numbers.specs.Fields.{littleEndian, numberAt, twosComplement, signedAt}
 
 -- w bytes and then v more: the low part, and the high part after it

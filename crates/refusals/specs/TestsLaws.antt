@@ -9,7 +9,7 @@ use lib.IntN.{ℤ, natAbs}
 use lib.Signed.{ltZ, leZ}
 use Rattle.laws.specs.Cases.{both-left, both-right}
 use Rattle.laws.specs.Order.{less-otherwiseℤ}
-use Rattle.laws.specs.Pattern.{read-as}
+use Rattle.laws.specs.SignedBits.{read-as}
 use Rattle.refusals.specs.FieldsVerdictLaws.{
   TestResult,
   verdict-is,

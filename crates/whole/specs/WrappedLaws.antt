@@ -10,7 +10,7 @@ use mir.Val.{SFits}
 use mir.Facts.{toZ-ofZ}
 use Rattle.laws.specs.Cases.{split}
 use Rattle.laws.specs.Linear.{over, under, magnitude-parts, sum-parts, negated-over, negated-under, less-of-parts, not-less-of-parts, parts-of-less, parts-of-not-less, same-parts}
-use Rattle.laws.specs.Pattern.{highest64, parts-that-fit, sum-fits-64, kept, Exact, exact}
+use Rattle.laws.specs.SignedBits.{highest64, parts-that-fit, sum-fits-64, kept, Exact, exact}
 use Rattle.whole.specs.Wrapped.{wrapped}
 
 pub wrapped-above : (z : ℤ) → under z + 2 ^ 63 ≤ over z → wrapped z ≡ z -ℤ pos (2 ^ 64)

@@ -11,7 +11,7 @@ use mir.Val.{toZ}
 use mir.Facts.{toZ-ofZ, toZ-pos}
 use Rattle.laws.specs.Magnitude.{magnitude-negated}
 use Rattle.laws.specs.Order.{far-below, far-above}
-use Rattle.laws.specs.Pattern.{fits-64, distance-of-fitting, kept, Exact, exact}
+use Rattle.laws.specs.SignedBits.{fits-64, distance-of-fitting, kept, Exact, exact}
 use Rattle.whole.proofs.beyond.Statement.{statement}
 use Rattle.whole.proofs.beyond.Tie as tie
 

@@ -7,7 +7,7 @@ use lib.Signed.{ltZ}
 use mir.Syntax.{w64}
 use mir.Val.{SFits}
 use mir.Facts.{toZ-ofZ}
-use Rattle.laws.specs.Pattern.{highest64, kept, Exact, exact}
+use Rattle.laws.specs.SignedBits.{highest64, kept, Exact, exact}
 use Rattle.whole.specs.WrappedLaws.{wrapped-fitting, MovedSum, lowest-fits, low-sum-fits, raised, highest-fits, high-sum-fits, lowered}
 use Rattle.whole.proofs.wrapped_sum.Statement.{statement}
 use Rattle.whole.proofs.wrapped_sum.Tie as tie

@@ -1,7 +1,7 @@
 use mathlib.Core.Path.{sym, _∙_}
 use borrow.Author.Needs.{needs}
 use mir.Syntax.{w64}
-use Rattle.laws.specs.Pattern.{read-back}
+use Rattle.laws.specs.SignedBits.{read-back}
 use Rattle.reading.specs.FrequencyLaws.{frequency-bound}
 use Rattle.reading.specs.MeasuredLaws.{answer-known, answer-refused}
 use Rattle.reading.specs.Measured.{measuredOf}

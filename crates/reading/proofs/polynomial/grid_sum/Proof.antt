@@ -8,7 +8,7 @@ use lib.IntN.{natAbs}
 use mir.Syntax.{w64}
 use mir.Val.{toZ}
 use mir.Facts.{toZ-ofZ}
-use Rattle.laws.specs.Pattern.{read-back}
+use Rattle.laws.specs.SignedBits.{read-back}
 use Rattle.reading.specs.declared.value.Value.the-variants.{Known}
 use Rattle.reading.specs.Polynomial.{gridSum}
 use Rattle.reading.specs.PolynomialLaws.{row-step-bound, grid-end, grid-next, grid-stops}

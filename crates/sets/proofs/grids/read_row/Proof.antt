@@ -2,7 +2,7 @@ use Prim.Native.Nat.{_-_}
 use borrow.Author.Needs.{needs}
 use Rattle.laws.specs.Loops.{FilledTo, filled-none, filled-more}
 use Rattle.sets.specs.Set.{rowFrom}
-use Rattle.laws.specs.Pattern.{read-as}
+use Rattle.laws.specs.SignedBits.{read-as}
 use Rattle.sets.specs.GridLaws.{row-next, row-filled}
 use Rattle.sets.proofs.grids.read_row.Statement.{statement}
 use Rattle.sets.proofs.grids.read_row.Tie as tie

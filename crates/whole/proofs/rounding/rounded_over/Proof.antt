@@ -12,7 +12,7 @@ use mir.Syntax.{w64}
 use mir.Val.{SFits, toZ}
 use mir.Facts.{toZ-ofZ, toZ-pos}
 use Rattle.laws.specs.Linear.{over, under, sum-parts, negated-over, negated-under, parts-of-less, parts-of-not-less}
-use Rattle.laws.specs.Pattern.{highest64, fits-64, parts-that-fit, distance-of-fitting, sum-fits-64, kept, Exact, exact}
+use Rattle.laws.specs.SignedBits.{highest64, fits-64, parts-that-fit, distance-of-fitting, sum-fits-64, kept, Exact, exact}
 use Rattle.whole.specs.Rounded.{rounded}
 use Rattle.whole.specs.RoundedLaws.{rounded-high, rounded-by-more, rounded-by-less}
 use Rattle.whole.proofs.rounding.rounded_over.Statement.{statement}

@@ -1,7 +1,7 @@
 use borrow.Author.Needs.{needs}
 use mir.Syntax.{w64}
 use mir.Facts.{toZ-ofZ}
-use Rattle.laws.specs.Pattern.{read-as}
+use Rattle.laws.specs.SignedBits.{read-as}
 use Rattle.whole.proofs.rounding.rounded_over_2_24.Statement.{statement}
 use Rattle.whole.proofs.rounding.rounded_over_2_24.Tie as tie
 

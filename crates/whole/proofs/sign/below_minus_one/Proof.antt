@@ -5,7 +5,7 @@ use lib.Signed.{mag}
 use mir.Syntax.{w64}
 use mir.Facts.{toZ-ofZ}
 use Rattle.laws.specs.Order.{below-zero}
-use Rattle.laws.specs.Pattern.{minus-one-less, kept, Exact, exact}
+use Rattle.laws.specs.SignedBits.{minus-one-less, kept, Exact, exact}
 use Rattle.whole.proofs.sign.below_minus_one.Statement.{statement}
 use Rattle.whole.proofs.sign.below_minus_one.Tie as tie
 
