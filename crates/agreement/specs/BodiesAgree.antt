@@ -12,7 +12,7 @@ use Rattle.paper.specs.Words.{Not, Outside, Beyond}
 use Rattle.paper.specs.Table.{row}
 use Rattle.paper.specs.Bodies.{LeapYear, NoSuchDay, IdentityWrong, PrescaleWrong, SetWrong, TrimWrong, NoteWrong}
 use Rattle.laws.specs.Cases.{decide, never, both-left, both-right}
-use Rattle.laws.specs.Tables.{every, entry}
+use Rattle.laws.specs.TableTests.{every, entry}
 use Rattle.numbers.specs.Fields.{numberAt, signedAt}
 use Rattle.bodies.specs.Identity.{leapYear, monthLengths, daysIn, identityFields, identityVerdict}
 use Rattle.bodies.specs.Trim.{trimFields, trimVerdict}

@@ -1,5 +1,8 @@
 // Kind 1, identity: what it says, and its fields judged in layout order.
 use super::Identity;
+use limits::FIRST_YEAR;
+use limits::IDENTITY_SIZE;
+use limits::LAST_YEAR;
 use numbers::fields::number1;
 use numbers::fields::number2;
 use numbers::fields::number4;
@@ -17,7 +20,7 @@ ghost use Rattle.bodies.specs.Identity.{identityOf, identityFields, iden
 pub fn read_identity(body: &[u8]) -> Identity
     ensures { λ r. ⌜ r ≡ identityOf (now (body .entry)) ⌝ }
 {
-    // from the last field on: where it is there the compiler knows that the others are
+    // read from the last field on, so that one bounds check serves all fields
     Identity {
         pmax: signed4(body, 20),
         pmin: signed4(body, 16),
@@ -33,7 +36,7 @@ pub fn read_identity(body: &[u8]) -> Identity
 pub fn identity_verdict(body: &[u8]) -> Verdict
     ensures { λ r. ⌜ r ≡ identityVerdict (now (body .entry)) ⌝ }
 {
-    if body.len() != 24 {
+    if body.len() != IDENTITY_SIZE {
         return refused_at(11, body.len());
     }
     date_verdict(body)
@@ -44,7 +47,7 @@ fn date_verdict(body: &[u8]) -> Verdict
     ensures { λ r. ⌜ r ≡ fieldsVerdict 11 (drop 1 (identityFields (now (body .entry)))) ⌝ }
 {
     let year = number2(body, 4);
-    if outside(1980, year as u64, 2099) {
+    if outside(FIRST_YEAR, year as u64, LAST_YEAR) {
         return refused_at(11, 4);
     }
     let month = number1(body, 6);

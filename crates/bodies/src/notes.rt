@@ -1,4 +1,7 @@
 // Kind 129, note: its fields judged in layout order.
+use limits::HIGHEST_CHARACTER;
+use limits::LONGEST_NOTE;
+use limits::LOWEST_CHARACTER;
 use refusals::Verdict;
 use refusals::refused_at;
 use whole::outside;
@@ -9,7 +12,7 @@ ghost use Rattle.bodies.specs.Note.{characterFields, noteVerdict};
 pub fn note_verdict(body: &[u8]) -> Verdict
     ensures { λ r. ⌜ r ≡ noteVerdict (now (body .entry)) ⌝ }
 {
-    if outside(1, body.len() as u64, 64) {
+    if outside(1, body.len() as u64, LONGEST_NOTE) {
         return refused_at(16, body.len());
     }
     characters_verdict(body)
@@ -20,7 +23,7 @@ fn characters_verdict(body: &[u8]) -> Verdict
 {
     let mut i: usize = 0;
     while i < body.len() {
-        if outside(32, body[i] as u64, 126) {
+        if outside(LOWEST_CHARACTER, body[i] as u64, HIGHEST_CHARACTER) {
             return refused_at(16, i);
         }
         i += 1;

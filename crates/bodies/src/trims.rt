@@ -1,5 +1,9 @@
 // Kind 4, trim: what it says, and its fields judged in layout order.
 use super::Trim;
+use limits::HIGHEST_UNIT;
+use limits::LARGEST_SPAN;
+use limits::LARGEST_ZERO;
+use limits::TRIM_SIZE;
 use numbers::fields::number1;
 use numbers::fields::number4;
 use numbers::fields::signed8;
@@ -15,7 +19,7 @@ ghost use Rattle.bodies.specs.Trim.{trimOf, trimFields, trimVerdict};
 pub fn read_trim(body: &[u8]) -> Trim
     ensures { λ r. ⌜ r ≡ trimOf (now (body .entry)) ⌝ }
 {
-    // from the last field on, as an identity
+    // read from the last field on, so that one bounds check serves all fields
     Trim {
         zero: signed8(body, 8),
         span: number4(body, 4),
@@ -26,10 +30,10 @@ pub fn read_trim(body: &[u8]) -> Trim
 pub fn trim_verdict(body: &[u8]) -> Verdict
     ensures { λ r. ⌜ r ≡ trimVerdict (now (body .entry)) ⌝ }
 {
-    if body.len() != 16 {
+    if body.len() != TRIM_SIZE {
         return refused_at(15, body.len());
     }
-    if outside(1, number1(body, 0) as u64, 3) {
+    if outside(1, number1(body, 0) as u64, HIGHEST_UNIT) {
         return refused_at(15, 0);
     }
     if number1(body, 1) != 0 {
@@ -48,10 +52,10 @@ pub fn trim_verdict(body: &[u8]) -> Verdict
 fn amounts_verdict(body: &[u8]) -> Verdict
     ensures { λ r. ⌜ r ≡ fieldsVerdict 15 (drop 5 (trimFields (now (body .entry)))) ⌝ }
 {
-    if outside(1, number4(body, 4) as u64, 2147483648) {
+    if outside(1, number4(body, 4) as u64, LARGEST_SPAN) {
         return refused_at(15, 4);
     }
-    if beyond(signed8(body, 8), 1099511627776) {
+    if beyond(signed8(body, 8), LARGEST_ZERO) {
         return refused_at(15, 8);
     }
     Verdict::Accepted

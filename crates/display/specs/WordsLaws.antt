@@ -12,18 +12,18 @@ use Rattle.io.specs.Counts.{Counts}
 use Rattle.io.specs.Digits.{glyph, digits, Fewest}
 use Rattle.laws.specs.Cases.{split}
 use Rattle.laws.specs.Characters.{characters}
-use Rattle.laws.specs.Wrote.{Wrote, wrote-nothing, wrote-character, wrote-then}
+use Rattle.laws.specs.BufferWrites.{WrittenAt, written-nothing, written-character, written-then}
 use Rattle.display.specs.Words.{digit, decimalIn, decimal, field, twoDigits}
 
 -- the words were put at `at`, and end at `end`
 pub record Printed (at : ℕ) (words d : List ℕ) (end : ℕ) (d′ : List ℕ) : Type 0 where
-  pub wrote : Wrote at words d d′
+  pub wrote : WrittenAt at words d d′
   pub ends : end ≡ at + length words
 
 pub printed-then : (at m end : ℕ) (p q d d₁ d₂ : List ℕ) → Printed at p d m d₁ → Printed m q d₁ end d₂ → Printed at (p ++ q) d end d₂
 printed-then at m end p q d d₁ d₂ w v =
     record {
-      wrote = wrote-then at m p q d d₁ d₂ (w .wrote) (w .ends) (v .wrote);
+      wrote = written-then at m p q d d₁ d₂ (w .wrote) (w .ends) (v .wrote);
       ends = omega (arith, w .ends, v .ends, length-append p q);
     }
 
@@ -33,10 +33,10 @@ printed-then at m end p q d d₁ d₂ w v =
 pub record Putting (at : ℕ) (words d₀ d : List ℕ) (i : ℕ) : Type 0 where
   pub within : i ≤ length words
   pub kept : length d ≡ length d₀
-  pub wrote : Wrote at (take i words) d₀ d
+  pub wrote : WrittenAt at (take i words) d₀ d
 
 pub putting-first : (at : ℕ) (words d : List ℕ) → Putting at words d d 0
-putting-first at words d = record { within = omega arith; kept = refl; wrote = wrote-nothing at d }
+putting-first at words d = record { within = omega arith; kept = refl; wrote = written-nothing at d }
 
 module _ (at : ℕ) (words d₀ d : List ℕ) (i : ℕ) (h : Putting at words d₀ d i) where
   pub putting-more : i < length words → at + length words ≤ length d₀ → Putting at words d₀ (set d (at + i) (getD words i 0)) (i + 1)
@@ -46,8 +46,8 @@ module _ (at : ℕ) (words d₀ d : List ℕ) (i : ℕ) (h : Putting at words d�
         within = omega arith;
         kept = length-set d (at + i) c ∙ h .kept;
         wrote = rw (add-one i, take-suc words i 0 k)
-            (wrote-then at (at + i) (take i words) (c ∷ []) d₀ d (set d (at + i) c) (h .wrote) (omega (arith, length-take i words, h .within))
-            (wrote-character (at + i) c d (omega (arith, h .kept))));
+            (written-then at (at + i) (take i words) (c ∷ []) d₀ d (set d (at + i) c) (h .wrote) (omega (arith, length-take i words, h .within))
+            (written-character (at + i) c d (omega (arith, h .kept))));
       }
 
   pub putting-end : length words ≤ i → Printed at words d₀ (at + length words) d

@@ -8,7 +8,7 @@ use borrow.Author.Tests.{lt-ltb, le-ltb}
 use lib.Dec.{T, ltb, eqb, eqb→eq}
 use lib.ListN.{length, drop, getD}
 use Rattle.laws.specs.Cases.{split}
-use Rattle.laws.specs.Tables.{every, entry}
+use Rattle.laws.specs.TableTests.{every, entry}
 use Rattle.hextext.specs.Record.{digit, allDigits}
 use Rattle.hextext.specs.RecordLaws.{byteAt}
 use Rattle.hexline.specs.DigitsLaws.{Spells, spells-digits, spells-none}

@@ -8,7 +8,7 @@ use borrow.Author.Tests.{lt-ltb, le-ltb}
 use borrow.Author.Count.{below-more}
 use lib.ListN.{length, take, getD, set, length-set, length-take}
 use lib.Seq.{getD-set-same, getD-set-other, take-suc, take-all}
-use Rattle.laws.specs.Wrote.{Wrote, wrote-nothing, wrote-character, wrote-then}
+use Rattle.laws.specs.BufferWrites.{WrittenAt, written-nothing, written-character, written-then}
 use Rattle.hextext.specs.Written.{hexDigit, spell}
 use Rattle.hextext.specs.WrittenLaws.{length-spell}
 
@@ -48,14 +48,14 @@ module _ (t : List ℕ) (i : ℕ) (h : Digits t i) where
 -- ---- a byte's characters
 
 module _ (at b : ℕ) (d : List ℕ) (h : at + 1 < length d) where
-  wrote-pair : (u v : ℕ) → u ≡ hexDigit (b / 16) → v ≡ hexDigit (b % 16) → Wrote at (spell (b ∷ [])) d (set (set d at u) (at + 1) v)
+  wrote-pair : (u v : ℕ) → u ≡ hexDigit (b / 16) → v ≡ hexDigit (b % 16) → WrittenAt at (spell (b ∷ [])) d (set (set d at u) (at + 1) v)
   unfolding spell
   wrote-pair u v e f =
       rw (← e, ← f)
-      (wrote-then at (at + 1) (u ∷ []) (v ∷ []) d (set d at u) (set (set d at u) (at + 1) v)
-      (wrote-character at u d (omega arith)) refl (wrote-character (at + 1) v (set d at u) (simp length-set h)))
+      (written-then at (at + 1) (u ∷ []) (v ∷ []) d (set d at u) (set (set d at u) (at + 1) v)
+      (written-character at u d (omega arith)) refl (written-character (at + 1) v (set d at u) (simp length-set h)))
 
-  pub wrote-byte : (t : List ℕ) → Digits t 16 → b < 256 → Wrote at (spell (b ∷ [])) d (set (set d at (getD t (b / 16) 0)) (at + 1) (getD t (b % 16) 0))
+  pub wrote-byte : (t : List ℕ) → Digits t 16 → b < 256 → WrittenAt at (spell (b ∷ [])) d (set (set d at (getD t (b / 16) 0)) (at + 1) (getD t (b % 16) 0))
   wrote-byte t s k = wrote-pair (getD t (b / 16) 0) (getD t (b % 16) 0) (s .below (b / 16) (omega arith)) (s .below (b % 16) (omega arith))
 
 -- ---- the characters of bytes in a row
@@ -69,14 +69,14 @@ spell-append (b ∷ l) m = rw (spell-append l m)
 pub record WritingBytes (at : ℕ) (x d₀ d : List ℕ) (i : ℕ) : Type 0 where
   pub within : i ≤ length x
   pub kept : length d ≡ length d₀
-  pub wrote : Wrote at (spell (take i x)) d₀ d
+  pub wrote : WrittenAt at (spell (take i x)) d₀ d
 
 pub writing-bytes-first : (at : ℕ) (x d : List ℕ) → WritingBytes at x d d 0
 unfolding spell
-writing-bytes-first at x d = record { within = omega arith; kept = refl; wrote = wrote-nothing at d }
+writing-bytes-first at x d = record { within = omega arith; kept = refl; wrote = written-nothing at d }
 
 module _ (at : ℕ) (x d₀ d : List ℕ) (i : ℕ) (h : WritingBytes at x d₀ d i) where
-  pub writing-bytes-more : (d′ : List ℕ) → i < length x → length d′ ≡ length d → Wrote (at + i * 2) (spell (getD x i 0 ∷ [])) d d′
+  pub writing-bytes-more : (d′ : List ℕ) → i < length x → length d′ ≡ length d → WrittenAt (at + i * 2) (spell (getD x i 0 ∷ [])) d d′
       → WritingBytes at x d₀ d′ (i + 1)
   writing-bytes-more d′ k same w =
       let e : at + i * 2 ≡ at + length (spell (take i x)) = omega (arith, length-spell (take i x), length-take i x) in
@@ -84,7 +84,7 @@ module _ (at : ℕ) (x d₀ d : List ℕ) (i : ℕ) (h : WritingBytes at x d₀ 
         within = omega arith;
         kept = same ∙ h .kept;
         wrote = rw (add-one i, take-suc x i 0 k, spell-append (take i x) (getD x i 0 ∷ []))
-            (wrote-then at (at + i * 2) (spell (take i x)) (spell (getD x i 0 ∷ [])) d₀ d d′ (h .wrote) e w);
+            (written-then at (at + i * 2) (spell (take i x)) (spell (getD x i 0 ∷ [])) d₀ d d′ (h .wrote) e w);
       }
 
   -- the two characters written one after the other
@@ -98,5 +98,5 @@ module _ (at : ℕ) (x d₀ d : List ℕ) (i : ℕ) (h : WritingBytes at x d₀ 
         writing-bytes-more (set (set d (at + i * 2) u) (at + i * 2 + 1) v) k (simp length-set)
         (wrote-pair (at + i * 2) (getD x i 0) d (omega (arith, h .kept)) u v e f)
 
-  pub writing-bytes-end : length x ≤ i → Wrote at (spell x) d₀ d
+  pub writing-bytes-end : length x ≤ i → WrittenAt at (spell x) d₀ d
   writing-bytes-end k = rw (take-all i x k) at (h .wrote)

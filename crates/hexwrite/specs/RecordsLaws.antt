@@ -13,7 +13,7 @@ use Rattle.refusals.specs.Refusals.{refusal}
 use Rattle.refusals.specs.RefusalsLaws.{Begins}
 use Rattle.hextext.specs.Written.{recordText, textOf, textLength, writeImage}
 use Rattle.hextext.specs.WrittenLaws.{length-recordText, length-textOf}
-use Rattle.laws.specs.Wrote.{Wrote}
+use Rattle.laws.specs.BufferWrites.{WrittenAt}
 use Rattle.hexwrite.specs.RecordLaws.{WroteRecord}
 use Rattle.hexwrite.specs.TextLaws.{textFrom, text-none, text-more, length-from, length-room}
 
@@ -38,7 +38,7 @@ module _ (x d₀ d : List ℕ) (start at : ℕ) (h : Writing x d₀ d start at) 
       omega (arith, h .inside, length-from start (drop start x))
 
   -- a piece p written where the text of what is left begins with it
-  written-piece : (p q d′ : List ℕ) → textFrom start (drop start x) ≡ p ++ q → Wrote at p d d′ → take (at + length p) d′ ++ q ≡ textOf x
+  written-piece : (p q d′ : List ℕ) → textFrom start (drop start x) ≡ p ++ q → WrittenAt at p d d′ → take (at + length p) d′ ++ q ≡ textOf x
   written-piece p q d′ e w = rw (w .is) (append-assoc (take at d) p q ∙ (rw e at (h .is)))
 
   module _ (image part : RefT (List ℕ)) (of : now image ≡ x) where

@@ -4,7 +4,7 @@ ghost use Prim.Native.Nat.{_+_, _*_, _/_, _%_, _<_, _≤_};
 ghost use lib.ListN.{length};
 ghost use Rattle.hextext.specs.Written.{hexDigit, spell};
 ghost use Rattle.hexwrite.specs.DigitsLaws.{Digits};
-ghost use Rattle.laws.specs.Wrote.{Wrote};
+ghost use Rattle.laws.specs.BufferWrites.{WrittenAt};
 
 // The character of a number below 16.
 fn hex_digit(value: u8) -> u8
@@ -43,7 +43,7 @@ pub fn hex_digits() -> [u8; 16]
 
 pub fn put_character(text: &mut [u8], at: usize, character: u8)
     requires { ⌜ at < length (now text) ⌝ }
-    ensures { λ _. ⌜ Wrote at (character ∷ []) (now (text .entry)) (now (text .exit)) ⌝ }
+    ensures { λ _. ⌜ WrittenAt at (character ∷ []) (now (text .entry)) (now (text .exit)) ⌝ }
 {
     text[at] = character;
 }
@@ -51,7 +51,7 @@ pub fn put_character(text: &mut [u8], at: usize, character: u8)
 // Writes the two characters of a byte.
 pub fn put_byte(digits: &[u8; 16], text: &mut [u8], at: usize, byte: u8)
     requires { ⌜ Digits (now digits) 16 × (at + 1 < length (now text)) ⌝ }
-    ensures { λ _. ⌜ Wrote at (spell (byte ∷ [])) (now (text .entry)) (now (text .exit)) ⌝ }
+    ensures { λ _. ⌜ WrittenAt at (spell (byte ∷ [])) (now (text .entry)) (now (text .exit)) ⌝ }
 {
     text[at] = digits[(byte / 16) as usize];
     text[at + 1] = digits[(byte % 16) as usize];
@@ -60,7 +60,7 @@ pub fn put_byte(digits: &[u8; 16], text: &mut [u8], at: usize, byte: u8)
 // Writes the characters of a few bytes, for which the table is quicker.
 pub fn put_few(digits: &[u8; 16], text: &mut [u8], at: usize, bytes: &[u8])
     requires { ⌜ Digits (now digits) 16 × (at + length (now bytes) * 2 ≤ length (now text)) ⌝ }
-    ensures { λ _. ⌜ Wrote at (spell (now (bytes .entry))) (now (text .entry)) (now (text .exit)) ⌝ }
+    ensures { λ _. ⌜ WrittenAt at (spell (now (bytes .entry))) (now (text .entry)) (now (text .exit)) ⌝ }
 {
     let mut i: usize = 0;
     while i < bytes.len() {
@@ -72,7 +72,7 @@ pub fn put_few(digits: &[u8; 16], text: &mut [u8], at: usize, bytes: &[u8])
 // Writes the characters of the bytes. Worked out in place, with no table and no name for the byte, many are written at once.
 pub fn put_bytes(text: &mut [u8], at: usize, bytes: &[u8])
     requires { ⌜ at + length (now bytes) * 2 ≤ length (now text) ⌝ }
-    ensures { λ _. ⌜ Wrote at (spell (now (bytes .entry))) (now (text .entry)) (now (text .exit)) ⌝ }
+    ensures { λ _. ⌜ WrittenAt at (spell (now (bytes .entry))) (now (text .entry)) (now (text .exit)) ⌝ }
 {
     let mut i: usize = 0;
     while i < bytes.len() {

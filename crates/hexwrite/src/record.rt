@@ -4,7 +4,7 @@ ghost use Prim.Native.Nat.{_+_, _*_, _<_, _≤_};
 ghost use lib.ListN.{length};
 ghost use Rattle.hextext.specs.Written.{spell, checksum};
 ghost use Rattle.hexwrite.specs.DigitsLaws.{Digits};
-ghost use Rattle.laws.specs.Wrote.{Wrote};
+ghost use Rattle.laws.specs.BufferWrites.{WrittenAt};
 ghost use Rattle.hexwrite.specs.RecordLaws.{WroteRecord};
 use crate::digits::put_byte;
 use crate::digits::put_bytes;
@@ -23,7 +23,7 @@ fn check_byte(head: &[u8], bytes: &[u8]) -> u8
 // Writes the colon and the bytes before the data.
 fn put_head(digits: &[u8; 16], text: &mut [u8], at: usize, head: &[u8])
     requires { ⌜ Digits (now digits) 16 × (at + 1 + length (now head) * 2 ≤ length (now text)) ⌝ }
-    ensures { λ _. ⌜ Wrote at (58 ∷ spell (now (head .entry))) (now (text .entry)) (now (text .exit)) ⌝ }
+    ensures { λ _. ⌜ WrittenAt at (58 ∷ spell (now (head .entry))) (now (text .entry)) (now (text .exit)) ⌝ }
 {
     put_character(text, at, b':');
     put_few(digits, text, at + 1, head);
@@ -32,7 +32,7 @@ fn put_head(digits: &[u8; 16], text: &mut [u8], at: usize, head: &[u8])
 // Writes the checksum and the line end.
 fn put_end(digits: &[u8; 16], text: &mut [u8], at: usize, check: u8)
     requires { ⌜ Digits (now digits) 16 × (at + 3 ≤ length (now text)) ⌝ }
-    ensures { λ _. ⌜ Wrote at (spell (check ∷ []) ++ 10 ∷ []) (now (text .entry)) (now (text .exit)) ⌝ }
+    ensures { λ _. ⌜ WrittenAt at (spell (check ∷ []) ++ 10 ∷ []) (now (text .entry)) (now (text .exit)) ⌝ }
 {
     put_byte(digits, text, at, check);
     put_character(text, at + 2, b'\n');

@@ -11,12 +11,12 @@ use lib.ListN.{length, take, drop, getD, drop-of-length-le, List·getD-eq-defaul
 use lib.Seq.{drop-cons, drop-drop, take-nil, take-take}
 use mir.Syntax.{Width, w8, w16, w32, w64, w128}
 use mir.Val.{SFits, bits, hbits, toZ, ofZ}
-use mir.Facts.{toZ-pos, toZ-ofZ}
+use mir.Facts.{toZ-pos}
 use Rattle.laws.specs.Bytes.{Bytes}
 use Rattle.laws.specs.BytesLaws.{bytes-drop}
 use Rattle.laws.specs.Cases.{split}
 use Rattle.laws.specs.Magnitude.{natural-difference, difference-lt}
-use Rattle.laws.specs.Pattern.{read-back, past-minus-one}
+use Rattle.laws.specs.SignedBits.{read-as, Exact, exact, past-minus-one}
 use Rattle.numbers.specs.Fields.{littleEndian, numberAt, twosComplement, signedAt}
 
 -- w bytes and then v more: the low part, and the high part after it
@@ -143,20 +143,20 @@ module _ (w : Width) (x : ℕ) (h : 2 ^ hbits w ≤ x) (k : x < 2 ^ bits w) wher
   lacks-little : 2 ^ bits w - 1 - x < 2 ^ hbits w
   lacks-little = omega (arith, both-halves w)
 
-  below-zero-is : negsuc 0 -ℤ toZ w (2 ^ bits w - 1 - x) ≡ negsuc (2 ^ bits w - 1 - x)
-  below-zero-is = rw (toZ-pos w lacks-little) (past-minus-one (2 ^ bits w - 1 - x))
+  below-zero : Exact w (negsuc 0 -ℤ toZ w (2 ^ bits w - 1 - x)) (negsuc (2 ^ bits w - 1 - x))
+  below-zero = exact w (rw (toZ-pos w lacks-little) (past-minus-one (2 ^ bits w - 1 - x))) (record { sfits = lacks-little })
 
   pub signed-high-fits : SFits w (negsuc 0 -ℤ toZ w (2 ^ bits w - 1 - x))
-  signed-high-fits = rw below-zero-is (record { sfits = lacks-little })
+  signed-high-fits = below-zero .fits
 
   pub signed-high : {y : ℕ} → x ≡ y → toZ w (ofZ w (negsuc 0 -ℤ toZ w (2 ^ bits w - 1 - x))) ≡ twosComplement (2 ^ bits w) y
   unfolding twosComplement
   signed-high {y} e =
       let b = both-halves w in
       let f : 2 ^ bits w - 1 - x ≡ 2 ^ bits w - suc x = omega arith in
-      toZ-ofZ signed-high-fits ∙ below-zero-is
+      below-zero .back
       ∙ rw (← e, le-ltb (2 * x) (2 ^ bits w) (omega arith), natural-difference x (2 ^ bits w), difference-lt x (2 ^ bits w) k, f)
 
 -- a sign that the code asked for of the pattern x
 pub signed-of-pattern : (w : Width) (all x y : ℕ) (z : ℤ) → mag z < 2 ^ hbits w → z ≡ twosComplement all x → x ≡ y → toZ w (ofZ w z) ≡ twosComplement all y
-signed-of-pattern w all x y z h e f = read-back w z h ∙ rw f at e
+signed-of-pattern w all x y z h e f = read-as w z _ h (rw f at e)

@@ -14,7 +14,7 @@ use mir.Facts.{toZ-pos}
 use Rattle.laws.specs.Cases.{decide, positive, both-left, both-right}
 use Rattle.laws.specs.Magnitude.{magnitude-product, magnitude-difference, magnitude-difference-low}
 use Rattle.laws.specs.Order.{between}
-use Rattle.laws.specs.Pattern.{fits-64}
+use Rattle.laws.specs.SignedBits.{fits-64}
 use Rattle.whole.specs.Rounded.{rounded}
 use Rattle.whole.specs.RoundedLaws.{rounded-low}
 use Rattle.refusals.specs.Refusals.{refusal, ask}

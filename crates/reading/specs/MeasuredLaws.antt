@@ -10,7 +10,7 @@ use mir.Syntax.{w32, w64}
 use mir.Val.{SFits}
 use Rattle.limits.specs.Limits.{highestFrequency, largestResult}
 use Rattle.laws.specs.Magnitude.{magnitude-product-le, magnitude-sum}
-use Rattle.laws.specs.Pattern.{fits-64}
+use Rattle.laws.specs.SignedBits.{fits-64}
 use Rattle.whole.specs.Rounded.{rounded}
 use Rattle.whole.specs.RoundedLaws.{rounded-high}
 use Rattle.refusals.specs.declared.Refusal.{Refusal}

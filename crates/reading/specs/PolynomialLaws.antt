@@ -15,7 +15,7 @@ use mir.Val.{SFits, toZ, ofZ}
 use mir.Facts.{toZ-ofZ}
 use Rattle.limits.specs.Limits.{largestX, largestSum}
 use Rattle.laws.specs.Magnitude.{magnitude-product-le}
-use Rattle.laws.specs.Pattern.{fits-64}
+use Rattle.laws.specs.SignedBits.{fits-64}
 use Rattle.whole.specs.Rounded.{rounded}
 use Rattle.whole.specs.RoundedLaws.{rounded-high, rounded-nothing}
 use Rattle.whole.specs.Wrapped.{wrapped}

@@ -27,7 +27,7 @@ andThen (Refused r) next = Refused r
 
 -- ---- a lent buffer
 
--- what a function that fills a buffer comes to
+-- the outcome of a function that fills a buffer
 pub data Outcome : Type 0 where
   result : List ℕ → Outcome
   refused : Refusal → Outcome
@@ -46,12 +46,12 @@ abbrev pub heldAfter : (size : ℕ) → Outcome → List ℕ
 heldAfter size (result x) = x ++ replicate (size - length x) 0
 heldAfter size (refused r) = replicate size 0
 
--- what such a function promises of its answer and of the buffer, which was `before` and is `after`
+-- the contract of such a function: its answer, and the buffer, which was `before` and is `after`
 pub record Fills (outcome : Outcome) (before : List ℕ) (answer : Filled) (after : List ℕ) : Type 0 where
   pub answers : answer ≡ answerTo outcome
   pub holds : after ≡ heldAfter (length before) outcome
 
--- an answer passed on, with zeros in the buffer after the result
+-- an answer passed on, and the rest of the buffer, after the result, cleared
 pub record Settled (answer : Filled) (before : List ℕ) (passed : Filled) (after : List ℕ) : Type 0 where
   pub same : passed ≡ answer
   pub cleared : after ≡ clearedFrom (filledLength answer) before

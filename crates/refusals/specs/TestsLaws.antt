@@ -2,19 +2,17 @@
 -- and the rules by which a search goes through a body's fields.
 use mathlib.Core.Path.{_≡_, sym, ap, _∙_}
 use mathlib.Core.Bool.{Bool, true, false, not, _&&_}
-use Prim.Native.Nat.{ℕ, _^_, _≤_, _<_}
+use Prim.Native.Nat.{ℕ, _≤_, _<_}
 use borrow.Author.Tests.{eq-eqb, ne-eqb, le-leb, lt-leb, leb-true, not-false}
 use lib.Dec.{leb, eqb}
 use lib.IntN.{ℤ, natAbs}
-use lib.Signed.{mag, ltZ, leZ}
-use mir.Syntax.{Width}
-use mir.Val.{toZ, ofZ, hbits}
+use lib.Signed.{ltZ, leZ}
 use Rattle.laws.specs.Cases.{both-left, both-right}
 use Rattle.laws.specs.Order.{less-otherwiseℤ}
-use Rattle.laws.specs.Pattern.{read-back}
+use Rattle.laws.specs.SignedBits.{read-as}
 use Rattle.refusals.specs.FieldsVerdictLaws.{
-  Wrong,
-  judged,
+  TestResult,
+  verdict-is,
   field-right,
   field-wrong,
   fields-left,
@@ -28,38 +26,38 @@ use Rattle.refusals.specs.FieldsVerdictLaws.{
 -- ---- numbers
 
 module _ (n k : ℕ) where
-  pub equal : n ≡ k → Wrong (eqb n k) false
+  pub equal : n ≡ k → TestResult (eqb n k) false
   equal h = record { tells = sym (ap not (eq-eqb n k h)) }
 
-  pub unequal : (n ≡ k → ⊥) → Wrong (eqb n k) true
+  pub unequal : (n ≡ k → ⊥) → TestResult (eqb n k) true
   unequal h = record { tells = sym (ap not (ne-eqb n k h)) }
 
-  pub at-most : n ≤ k → Wrong (leb n k) false
+  pub at-most : n ≤ k → TestResult (leb n k) false
   at-most h = record { tells = sym (ap not (le-leb n k h)) }
 
-  pub more : k < n → Wrong (leb n k) true
+  pub more : k < n → TestResult (leb n k) true
   more h = record { tells = sym (ap not (lt-leb n k h)) }
 
 module _ (x n k : ℕ) (e : x ≡ n) where
-  pub read-equal : x ≡ k → Wrong (eqb n k) false
+  pub read-equal : x ≡ k → TestResult (eqb n k) false
   read-equal h = equal n k (sym e ∙ h)
 
-  pub read-unequal : (x ≡ k → ⊥) → Wrong (eqb n k) true
+  pub read-unequal : (x ≡ k → ⊥) → TestResult (eqb n k) true
   read-unequal h = unequal n k (λ (f : n ≡ k). h (e ∙ f))
 
-  pub read-at-most : x ≤ k → Wrong (leb n k) false
+  pub read-at-most : x ≤ k → TestResult (leb n k) false
   read-at-most h = at-most n k (rw e at h)
 
-  pub read-more : k < x → Wrong (leb n k) true
+  pub read-more : k < x → TestResult (leb n k) true
   read-more h = more n k (rw e at h)
 
 -- b is what a function of the code answered
 module _ (b told : Bool) where
   pub outside-told : (low x high n bound : ℕ) → x ≡ n → high ≡ bound → b ≡ not (leb low x && leb x high) → b ≡ told
-      → Wrong (leb low n && leb n bound) told
+      → TestResult (leb low n && leb n bound) told
   outside-told low x high n bound f g e h = record { tells = sym h ∙ rw (f, g) at e }
 
-  pub beyond-told : (x z : ℤ) (limit : ℕ) → x ≡ z → b ≡ not (leb (natAbs x) limit) → b ≡ told → Wrong (leb (natAbs z) limit) told
+  pub beyond-told : (x z : ℤ) (limit : ℕ) → x ≡ z → b ≡ not (leb (natAbs x) limit) → b ≡ told → TestResult (leb (natAbs z) limit) told
   beyond-told x z limit f e h = record { tells = sym h ∙ rw f at e }
 
 -- a number that is not outside lies within
@@ -75,11 +73,7 @@ module _ (b : Bool) (low x high : ℕ) (e : b ≡ not (leb low x && leb x high))
 
 -- ---- signed numbers
 
--- one is read back from its bits before it is tested or handed on
-pub read-as : (w : Width) (x z : ℤ) → mag x < 2 ^ hbits w → x ≡ z → toZ w (ofZ w x) ≡ z
-read-as w x z h e = read-back w x h ∙ e
-
-pub above-told : (x y least greatest : ℤ) (told : Bool) → x ≡ least → y ≡ greatest → ltZ y x ≡ told → Wrong (leZ least greatest) told
+pub above-told : (x y least greatest : ℤ) (told : Bool) → x ≡ least → y ≡ greatest → ltZ y x ≡ told → TestResult (leZ least greatest) told
 above-told x y least greatest told e f h = record { tells = sym h ∙ rw (e, f) (less-otherwiseℤ least greatest) }
 
 -- ---- what a proof about a body's fields cites
@@ -100,6 +94,6 @@ pub ruleset tests = (
 )
 
 -- where they are judged one by one, and where in a loop
-pub ruleset fields = (judged, field-right, field-wrong, fields-left, fields-end, tests)
+pub ruleset fields = (verdict-is, field-right, field-wrong, fields-left, fields-end, tests)
 
-pub ruleset loop = (judged, loop-first, loop-right, loop-wrong, loop-end, tests)
+pub ruleset loop = (verdict-is, loop-first, loop-right, loop-wrong, loop-end, tests)

@@ -17,7 +17,7 @@ pub struct Refusal {
     pub detail: u64,
 }
 
-// What a check says.
+// What a check answers.
 pub enum Verdict {
     Accepted,
     Refused(Refusal),
@@ -29,7 +29,7 @@ pub fn refused(number: u32, detail: u64) -> Verdict
     Verdict::Refused(Refusal { number, detail })
 }
 
-// A body whose first wrong field stands at this place in it. The place is not told yet: the detail is 0.
+// The refusal of a body whose first wrong field stands at `place`. The place is not used yet: T-01 makes it the detail, which is 0 until then.
 pub fn refused_at(number: u32, place: usize) -> Verdict
     ensures { λ r. ⌜ r ≡ refusedAt number place ⌝ }
 {

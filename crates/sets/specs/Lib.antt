@@ -1,4 +1,4 @@
 pub mod Set
-pub mod SetAsked
+pub mod Preconditions
 pub mod SetLaws
 pub mod GridLaws

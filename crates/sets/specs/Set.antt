@@ -29,6 +29,9 @@ setOf body =
 abbrev pub coefficientCount : List ℕ → ℕ
 coefficientCount body = (pressureOrder body + 1) * (temperatureOrder body + 1)
 
+abbrev pub setSize : List ℕ → ℕ
+setSize body = 28 + 8 * coefficientCount body
+
 abbrev pub coefficientPlace : (i : ℕ) → ℕ
 coefficientPlace i = 28 + 8 * i
 
@@ -60,7 +63,7 @@ setFields body =
     ∷ field 1 (eqb (numberAt 1 body 1) 1)
     ∷ field 2 (leb (pressureOrder body) 4)
     ∷ field 3 (leb (temperatureOrder body) 4)
-    ∷ field (length body) (eqb (length body) (28 + 8 * coefficientCount body))
+    ∷ field (length body) (eqb (length body) (setSize body))
     ∷ field 4 (multiplierRight (pressureOrder body) (numberAt 4 body 4))
     ∷ field 8 (offsetRight (pressureOrder body) (numberAt 8 body 8))
     ∷ field 16 (multiplierRight (temperatureOrder body) (numberAt 4 body 16))
@@ -77,7 +80,7 @@ setVerdict number body = fieldsVerdict number (setFields body)
 -- A body too short for its orders, which no verdict accepts, fills no place.
 abbrev pub gridPlace : List ℕ → (row place : ℕ) → ℤ
 gridPlace body row place =
-    cond (leb (28 + 8 * coefficientCount body) (length body) && leb row (pressureOrder body) && leb place (temperatureOrder body))
+    cond (leb (setSize body) (length body) && leb row (pressureOrder body) && leb place (temperatureOrder body))
     (coefficientAt body (row * (temperatureOrder body + 1) + place))
     (pos 0)
 

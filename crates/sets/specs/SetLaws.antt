@@ -13,7 +13,7 @@ use Rattle.laws.specs.Order.{less-otherwise}
 use Rattle.numbers.specs.Fields.{numberAt}
 use Rattle.refusals.specs.declared.Verdict.{Verdict}
 use Rattle.refusals.specs.FieldsVerdict.{fieldsVerdict}
-use Rattle.refusals.specs.FieldsVerdictLaws.{Wrong, Judged}
+use Rattle.refusals.specs.FieldsVerdictLaws.{TestResult, IsVerdict}
 use Rattle.refusals.specs.TestsLaws.{equal, unequal}
 use Rattle.sets.specs.declared.Set.{Set}
 use Rattle.sets.specs.Set.{
@@ -21,11 +21,12 @@ use Rattle.sets.specs.Set.{
   pressureOrder,
   temperatureOrder,
   coefficientCount,
+  setSize,
   coefficientFields,
   multiplierRight,
   offsetRight,
 }
-use Rattle.sets.specs.SetAsked.{Ordered}
+use Rattle.sets.specs.Preconditions.{OrdersRead}
 
 pub set-read : (body : List ℕ) {np mp fp nt mt ft : ℕ}
     → np ≡ pressureOrder body → mp ≡ numberAt 4 body 4 → fp ≡ numberAt 8 body 8
@@ -54,10 +55,10 @@ module _ (order high n : ℕ) where
   offset-held f = decide (eqb order 0) (λ g. rw (less-otherwise n high, f, g, only-zero n)) (λ g. rw (less-otherwise n high, f, g))
 
 module _ (b told : Bool) (x n order field : ℕ) (e : x ≡ order) (f : n ≡ field) where
-  pub multiplier-told : b ≡ not (multiplierRight x n) → b ≡ told → Wrong (multiplierRight order field) told
+  pub multiplier-told : b ≡ not (multiplierRight x n) → b ≡ told → TestResult (multiplierRight order field) told
   multiplier-told g h = record { tells = sym h ∙ rw (e, f) at g }
 
-  pub offset-told : b ≡ not (offsetRight x n) → b ≡ told → Wrong (offsetRight order field) told
+  pub offset-told : b ≡ not (offsetRight x n) → b ≡ told → TestResult (offsetRight order field) told
   offset-told g h = record { tells = sym h ∙ rw (e, f) at g }
 
 -- ---- the length that the orders ask for; x and y are the orders that the code read
@@ -68,19 +69,19 @@ few x y h k =
     let b : y + 1 ≤ 5 = omega arith in
     mul-le-mul a b
 
-module _ (body : List ℕ) (x y count : ℕ) (o : Ordered body x y) (c : count ≡ (x + 1) * (y + 1)) where
+module _ (body : List ℕ) (x y count : ℕ) (o : OrdersRead body x y) (c : count ≡ (x + 1) * (y + 1)) where
   counted : count ≡ coefficientCount body
   counted = rw (o .pressure, o .temperature) at c
 
-  asked : 28 + 8 * count ≡ 28 + 8 * coefficientCount body
+  asked : 28 + 8 * count ≡ setSize body
   asked = ap (λ (n : ℕ). 28 + 8 * n) counted
 
-  pub length-told : length body ≡ 28 + 8 * count → Wrong (eqb (length body) (28 + 8 * coefficientCount body)) false
-  length-told h = equal (length body) (28 + 8 * coefficientCount body) (h ∙ asked)
+  pub length-told : length body ≡ 28 + 8 * count → TestResult (eqb (length body) (setSize body)) false
+  length-told h = equal (length body) (setSize body) (h ∙ asked)
 
-  pub other-length-told : (length body ≡ 28 + 8 * count → ⊥) → Wrong (eqb (length body) (28 + 8 * coefficientCount body)) true
-  other-length-told h = unequal (length body) (28 + 8 * coefficientCount body) (λ g. h (g ∙ sym asked))
+  pub other-length-told : (length body ≡ 28 + 8 * count → ⊥) → TestResult (eqb (length body) (setSize body)) true
+  other-length-told h = unequal (length body) (setSize body) (λ g. h (g ∙ sym asked))
 
-  pub coefficients-judged : {number : ℕ} {verdict : Verdict} → verdict ≡ fieldsVerdict number (coefficientFields body count)
-      → Judged number (coefficientFields body (coefficientCount body)) verdict
-  coefficients-judged h = record { so = rw counted at h }
+  pub coefficients-verdict-is : {number : ℕ} {verdict : Verdict} → verdict ≡ fieldsVerdict number (coefficientFields body count)
+      → IsVerdict number (coefficientFields body (coefficientCount body)) verdict
+  coefficients-verdict-is h = record { is = rw counted at h }

@@ -1,10 +1,12 @@
 // The grid of a set: its coefficients in five rows of five.
 use crate::coefficients::coefficient;
+use limits::COEFFICIENT_SIZE;
+use limits::SET_HEAD_SIZE;
 use numbers::fields::number1;
 ghost use mathlib.Core.Path.{_≡_};
 ghost use Prim.Native.Nat.{_<_};
 ghost use Rattle.sets.specs.Set.{gridPlace, rowFrom, gridOf};
-ghost use Rattle.sets.specs.SetAsked.{Gridded};
+ghost use Rattle.sets.specs.Preconditions.{GridRow};
 
 pub fn read_grid(body: &[u8]) -> [[i64; 5]; 5]
     ensures { λ r. ⌜ r ≡ gridOf (now (body .entry)) ⌝ }
@@ -12,7 +14,7 @@ pub fn read_grid(body: &[u8]) -> [[i64; 5]; 5]
     let rows = number1(body, 2) as usize + 1;
     let places = number1(body, 3) as usize + 1;
     let mut grid = [[0i64; 5]; 5];
-    if body.len() < 28 + 8 * (rows * places) {
+    if body.len() < SET_HEAD_SIZE + COEFFICIENT_SIZE * (rows * places) {
         return grid;
     }
     let mut row: usize = 0;
@@ -25,7 +27,7 @@ pub fn read_grid(body: &[u8]) -> [[i64; 5]; 5]
 }
 
 fn read_row(body: &[u8], rows: usize, places: usize, row: usize) -> [i64; 5]
-    requires { ⌜ Gridded (now body) rows places row ⌝ }
+    requires { ⌜ GridRow (now body) rows places row ⌝ }
     ensures { λ r. ⌜ r ≡ rowFrom (now (body .entry)) row 5 0 ⌝ }
 {
     let mut coefficients = [0i64; 5];
@@ -39,7 +41,7 @@ fn read_row(body: &[u8], rows: usize, places: usize, row: usize) -> [i64; 5]
 }
 
 fn read_place(body: &[u8], rows: usize, places: usize, row: usize, place: usize) -> i64
-    requires { ⌜ (Gridded (now body) rows places row) × (place < 5) ⌝ }
+    requires { ⌜ (GridRow (now body) rows places row) × (place < 5) ⌝ }
     ensures { λ r. ⌜ r ≡ gridPlace (now (body .entry)) row place ⌝ }
 {
     if rows <= row {
@@ -48,5 +50,8 @@ fn read_place(body: &[u8], rows: usize, places: usize, row: usize, place: usize)
     if places <= place {
         return 0;
     }
-    coefficient(body, 28 + 8 * (row * places + place))
+    coefficient(
+        body,
+        SET_HEAD_SIZE + COEFFICIENT_SIZE * (row * places + place),
+    )
 }

@@ -2,6 +2,13 @@
 use crate::Prescale;
 use crate::Set;
 use crate::coefficients::coefficient;
+use limits::COEFFICIENT_SIZE;
+use limits::HIGHEST_ORDER;
+use limits::LARGEST_COEFFICIENT;
+use limits::LARGEST_MULTIPLIER;
+use limits::LARGEST_OFFSET;
+use limits::PRESCALE_ALGORITHM;
+use limits::SET_HEAD_SIZE;
 use numbers::fields::number1;
 use numbers::fields::number4;
 use numbers::fields::number8;
@@ -16,12 +23,12 @@ ghost use lib.Dec.{eqb};
 ghost use lib.ListN.{length, drop};
 ghost use Rattle.refusals.specs.FieldsVerdict.{fieldsVerdict};
 ghost use Rattle.sets.specs.Set.{setOf, setFields, setVerdict, multiplierRight, offsetRight, coefficientFields};
-ghost use Rattle.sets.specs.SetAsked.{Ordered};
+ghost use Rattle.sets.specs.Preconditions.{OrdersRead};
 
 pub fn read_set(body: &[u8]) -> Set
     ensures { λ r. ⌜ r ≡ setOf (now (body .entry)) ⌝ }
 {
-    // from the last field on: where it is there the compiler knows that the others are
+    // read from the last field on, so that one bounds check serves all fields
     let temperature = Prescale {
         offset: number8(body, 20),
         multiplier: number4(body, 16),
@@ -44,18 +51,18 @@ pub fn set_verdict(body: &[u8], number: u32) -> Verdict
     if body.len() < 4 {
         return refused_at(number, body.len());
     }
-    if number1(body, 0) != 1 {
+    if number1(body, 0) != PRESCALE_ALGORITHM {
         return refused_at(number, 0);
     }
-    if number1(body, 1) != 1 {
+    if number1(body, 1) != PRESCALE_ALGORITHM {
         return refused_at(number, 1);
     }
     let pressure = number1(body, 2);
-    if 4 < pressure {
+    if HIGHEST_ORDER < pressure {
         return refused_at(number, 2);
     }
     let temperature = number1(body, 3);
-    if 4 < temperature {
+    if HIGHEST_ORDER < temperature {
         return refused_at(number, 3);
     }
     prescales_verdict(body, pressure, temperature, number)
@@ -63,11 +70,11 @@ pub fn set_verdict(body: &[u8], number: u32) -> Verdict
 
 // The fields after the orders, which are the body's: its length, multiplier and offset of each prescale, the coefficients.
 fn prescales_verdict(body: &[u8], pressure: u8, temperature: u8, number: u32) -> Verdict
-    requires { ⌜ Ordered (now body) pressure temperature ⌝ }
+    requires { ⌜ OrdersRead (now body) pressure temperature ⌝ }
     ensures { λ r. ⌜ r ≡ fieldsVerdict number (drop 5 (setFields (now (body .entry)))) ⌝ }
 {
     let count = coefficient_count(pressure, temperature);
-    if body.len() != 28 + 8 * count {
+    if body.len() != SET_HEAD_SIZE + COEFFICIENT_SIZE * count {
         return refused_at(number, body.len());
     }
     if multiplier_wrong(pressure, number4(body, 4)) {
@@ -102,13 +109,17 @@ fn limit(order: u8, otherwise: u64) -> u64
 fn multiplier_wrong(order: u8, multiplier: u32) -> bool
     ensures { λ r. ⌜ r ≡ not (multiplierRight order multiplier) ⌝ }
 {
-    outside(limit(order, 1), multiplier as u64, limit(order, 1073741824))
+    outside(
+        limit(order, 1),
+        multiplier as u64,
+        limit(order, LARGEST_MULTIPLIER),
+    )
 }
 
 fn offset_wrong(order: u8, offset: u64) -> bool
     ensures { λ r. ⌜ r ≡ not (offsetRight order offset) ⌝ }
 {
-    limit(order, 6553600000) < offset
+    limit(order, LARGEST_OFFSET) < offset
 }
 
 fn coefficients_verdict(body: &[u8], count: usize, number: u32) -> Verdict
@@ -117,8 +128,8 @@ fn coefficients_verdict(body: &[u8], count: usize, number: u32) -> Verdict
 {
     let mut i: usize = 0;
     while i < count {
-        let place = 28 + 8 * i;
-        if beyond(coefficient(body, place), 17179869184) {
+        let place = SET_HEAD_SIZE + COEFFICIENT_SIZE * i;
+        if beyond(coefficient(body, place), LARGEST_COEFFICIENT) {
             return refused_at(number, place);
         }
         i += 1;

@@ -13,7 +13,7 @@ use mir.Syntax.{w64}
 use mir.Val.{Fits}
 use Rattle.laws.specs.Cases.{split, positive}
 use Rattle.laws.specs.Magnitude.{difference-ge, difference-lt, magnitude-product, magnitude-sum-low, magnitude-difference-low, magnitude-negated}
-use Rattle.laws.specs.Ring.{distributive-left, associative, product-negated}
+use Rattle.laws.specs.Products.{distributive-left, associative, product-negated}
 use Rattle.laws.specs.Linear.{over, under, sum-parts, negated-over, negated-under, product-over, product-under, order-of-parts, parts-of-order, same-parts, distance}
 use Rattle.whole.specs.Rounded.{floorDiv, rounded}
 

@@ -11,6 +11,13 @@ ghost use Rattle.whole.specs.Wrapped.{wrapped};
 pub mod rounding;
 mod sign;
 
+// The highest and the lowest number of 64 bits with a sign.
+const HIGHEST: i64 = 9223372036854775807;
+
+const LOWEST: i64 = -9223372036854775808;
+
+const HIGHEST_UNSIGNED: u64 = HIGHEST as u64;
+
 // How far z is from 0.
 pub fn magnitude(z: i64) -> u64
     ensures { λ r. ⌜ r ≡ natAbs z ⌝ }
@@ -32,7 +39,7 @@ pub fn outside(low: u64, number: u64, high: u64) -> bool
 pub fn beyond(number: i64, limit: u64) -> bool
     ensures { λ r. ⌜ r ≡ not (leb (natAbs number) limit) ⌝ }
 {
-    if 9223372036854775807 < limit {
+    if HIGHEST_UNSIGNED < limit {
         return false;
     }
     let most = limit as i64;
@@ -45,13 +52,13 @@ pub fn wrapped_sum(a: i64, b: i64) -> i64
     ensures { λ r. ⌜ r ≡ wrapped (a +ℤ b) ⌝ }
 {
     if b < 0 {
-        if a < -9223372036854775808 - b {
-            return (a + 9223372036854775807) + (b + 9223372036854775807) + 2;
+        if a < LOWEST - b {
+            return (a + HIGHEST) + (b + HIGHEST) + 2;
         }
         return a + b;
     }
-    if 9223372036854775807 - b < a {
-        return (a - 9223372036854775807) + (b - 9223372036854775807) - 2;
+    if HIGHEST - b < a {
+        return (a - HIGHEST) + (b - HIGHEST) - 2;
     }
     a + b
 }

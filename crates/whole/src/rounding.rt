@@ -1,3 +1,4 @@
+use crate::HIGHEST;
 ghost use mathlib.Core.Path.{_≡_};
 ghost use Prim.Native.Nat.{_+_, _<_, _^_};
 ghost use lib.IntN.{pos};
@@ -10,13 +11,13 @@ pub fn rounded_quotient(n: u64, d: u64) -> u64
     if d == 0 {
         return 0;
     }
-    let whole = n / d;
-    let rest = n % d;
-    // twice the rest is d or more, said so that no sum wraps
-    if d - d / 2 <= rest {
-        return whole + 1;
+    let quotient = n / d;
+    let remainder = n % d;
+    // twice the remainder is d or more, said so that no sum wraps
+    if d - d / 2 <= remainder {
+        return quotient + 1;
     }
-    whole
+    quotient
 }
 
 // n / 2^power, where `half` is half of 2^power: the greatest whole number at most (n + half) / 2^power.
@@ -26,7 +27,7 @@ fn rounded_over(n: i64, half: u32, power: u32) -> i64
 {
     let more = half as i64;
     // so near the highest number that the sum would not fit
-    if 9223372036854775807 - more < n {
+    if HIGHEST - more < n {
         return ((n - more) >> power) + 1;
     }
     (n + more) >> power

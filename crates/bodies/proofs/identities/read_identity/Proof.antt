@@ -1,5 +1,5 @@
 use borrow.Author.Needs.{needs}
-use Rattle.refusals.specs.TestsLaws.{read-as}
+use Rattle.laws.specs.SignedBits.{read-as}
 use Rattle.bodies.specs.IdentityLaws.{identity-read}
 use Rattle.bodies.proofs.identities.read_identity.Statement.{statement}
 use Rattle.bodies.proofs.identities.read_identity.Tie as tie

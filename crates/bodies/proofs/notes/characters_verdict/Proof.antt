@@ -2,7 +2,7 @@ use Prim.Native.Nat.{_-_}
 use native.Mathlib.Omega.{arith}
 use borrow.Author.Needs.{needs}
 use lib.ListN.{length}
-use Rattle.refusals.specs.FieldsVerdictLaws.{RightBefore}
+use Rattle.refusals.specs.FieldsVerdictLaws.{FieldsRightBefore}
 use Rattle.refusals.specs.TestsLaws.{loop}
 use Rattle.bodies.specs.Note.{characterField}
 use Rattle.bodies.proofs.notes.characters_verdict.Statement.{statement}
@@ -11,7 +11,7 @@ use Rattle.bodies.proofs.notes.characters_verdict.Tie as tie
 ruleset laws = (needs, loop)
 
 abbrev Inv-loop : tie.InvT-loop
-Inv-loop body i₀ i = RightBefore 16 (characterField body) (length body) i
+Inv-loop body i₀ i = FieldsRightBefore 16 (characterField body) (length body) i
 
 abbrev μ-loop : tie.MeasureT-loop
 μ-loop body i₀ i = length body - i

@@ -1,5 +1,5 @@
 use borrow.Author.Needs.{needs}
-use Rattle.refusals.specs.TestsLaws.{read-as}
+use Rattle.laws.specs.SignedBits.{read-as}
 use Rattle.bodies.specs.TrimLaws.{trim-read}
 use Rattle.bodies.proofs.trims.read_trim.Statement.{statement}
 use Rattle.bodies.proofs.trims.read_trim.Tie as tie

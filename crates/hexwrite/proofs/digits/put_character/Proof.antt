@@ -1,9 +1,9 @@
 use borrow.Author.Needs.{needs}
-use Rattle.laws.specs.Wrote.{wrote-character}
+use Rattle.laws.specs.BufferWrites.{written-character}
 use Rattle.hexwrite.proofs.digits.put_character.Statement.{statement}
 use Rattle.hexwrite.proofs.digits.put_character.Tie as tie
 
-ruleset laws = (needs, wrote-character)
+ruleset laws = (needs, written-character)
 
 slice-write-text : tie.Need-slice-write-text
 slice-write-text c = search laws

@@ -1,7 +1,7 @@
 use mathlib.Core.Path.{_∙_}
 use borrow.Author.Needs.{needs}
 use mir.Syntax.{w64}
-use Rattle.laws.specs.Pattern.{read-back}
+use Rattle.laws.specs.SignedBits.{read-back}
 use Rattle.reading.specs.ValueLaws.{first-known, first-refused}
 use Rattle.reading.specs.MeasuredCuts.{frequenciesOf}
 use Rattle.reading.proofs.measure.frequencies.Statement.{statement}

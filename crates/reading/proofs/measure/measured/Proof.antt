@@ -4,7 +4,7 @@ use denote.Ref.{now}
 use lib.IntN.{ℤ}
 use mir.Syntax.{w64}
 use mir.Val.{toZ, ofZ}
-use Rattle.laws.specs.Pattern.{read-back}
+use Rattle.laws.specs.SignedBits.{read-back}
 use Rattle.reading.specs.declared.value.Both.the-variants.{Known}
 use Rattle.reading.specs.Gauge.{Gauge, gaugeOf}
 use Rattle.reading.specs.MeasuredCuts.{frequenciesOf, resultsOf}

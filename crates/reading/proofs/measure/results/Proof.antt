@@ -2,7 +2,7 @@ use mathlib.Core.Path.{_∙_}
 use borrow.Author.Needs.{needs}
 use mir.Syntax.{w64}
 use mir.Facts.{toZ-ofZ}
-use Rattle.laws.specs.Pattern.{read-back}
+use Rattle.laws.specs.SignedBits.{read-back}
 use Rattle.reading.specs.ValueLaws.{first-known, first-refused}
 use Rattle.reading.specs.MeasuredCuts.{resultsOf}
 use Rattle.reading.proofs.measure.results.Statement.{statement}

@@ -5,7 +5,7 @@ use lib.IntN.{pos}
 use mir.Syntax.{w64}
 use mir.Val.{toZ}
 use mir.Facts.{toZ-ofZ}
-use Rattle.laws.specs.Pattern.{read-back}
+use Rattle.laws.specs.SignedBits.{read-back}
 use Rattle.reading.specs.Polynomial.{stepOf}
 use Rattle.reading.specs.PolynomialLaws.{step-bound, SumFrom, sum-first, sum-more, sum-refused, sum-all}
 use Rattle.reading.proofs.polynomial.row_sum.Statement.{statement}

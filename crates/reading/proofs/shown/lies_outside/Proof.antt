@@ -1,7 +1,7 @@
 use borrow.Author.Needs.{needs}
 use mir.Syntax.{w64}
 use mir.Facts.{toZ-ofZ}
-use Rattle.laws.specs.Pattern.{read-back}
+use Rattle.laws.specs.SignedBits.{read-back}
 use Rattle.reading.specs.MeasuredLaws.{outside-below, outside-above}
 use Rattle.reading.proofs.shown.lies_outside.Statement.{statement}
 use Rattle.reading.proofs.shown.lies_outside.Tie as tie

@@ -7,7 +7,7 @@ use borrow.Author.Needs.{needs}
 use lib.Signed.{mag}
 use mir.Syntax.{w32}
 use mir.Facts.{toZ-ofZ}
-use Rattle.laws.specs.Pattern.{read-back}
+use Rattle.laws.specs.SignedBits.{read-back}
 use Rattle.reading.specs.Measured.{markOf}
 use Rattle.reading.specs.MeasuredLaws.{mark-is}
 use Rattle.reading.proofs.shown.mark.Statement.{statement}

@@ -9,7 +9,7 @@ use lib.Signed.{mag}
 use mir.Syntax.{w64}
 use mir.Val.{toZ, ofZ}
 use mir.Facts.{toZ-ofZ}
-use Rattle.laws.specs.Pattern.{read-back}
+use Rattle.laws.specs.SignedBits.{read-back}
 use Rattle.reading.specs.Measured.{shownBy}
 use Rattle.reading.proofs.shown.shown_by.Statement.{statement}
 use Rattle.reading.proofs.shown.shown_by.Tie as tie

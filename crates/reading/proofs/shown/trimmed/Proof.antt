@@ -7,7 +7,7 @@ use lib.IntN.{pos, _+ℤ_, _*ℤ_}
 use mir.Syntax.{w64}
 use mir.Val.{SFits, toZ, ofZ}
 use mir.Facts.{toZ-ofZ, toZ-pos}
-use Rattle.laws.specs.Pattern.{read-back, fits-64}
+use Rattle.laws.specs.SignedBits.{read-back, fits-64}
 use Rattle.whole.specs.Rounded.{rounded}
 use Rattle.reading.specs.Measured.{trimmedBy}
 use Rattle.reading.specs.MeasuredLaws.{trim-product-fits, trim-sum-fits}

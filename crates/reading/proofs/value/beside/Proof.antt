@@ -1,7 +1,7 @@
 use borrow.Author.Needs.{needs}
 use mir.Syntax.{w64}
 use mir.Facts.{toZ-ofZ}
-use Rattle.laws.specs.Pattern.{read-back}
+use Rattle.laws.specs.SignedBits.{read-back}
 use Rattle.reading.specs.ValueLaws.{beside-known, beside-refused}
 use Rattle.reading.proofs.value.beside.Statement.{statement}
 use Rattle.reading.proofs.value.beside.Tie as tie

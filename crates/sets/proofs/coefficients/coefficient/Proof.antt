@@ -1,6 +1,6 @@
 use borrow.Author.Needs.{needs}
 use Rattle.numbers.specs.FieldsLaws.{signed-of-bytes}
-use Rattle.refusals.specs.TestsLaws.{read-as}
+use Rattle.laws.specs.SignedBits.{read-as}
 use Rattle.sets.proofs.coefficients.coefficient.Statement.{statement}
 use Rattle.sets.proofs.coefficients.coefficient.Tie as tie
 

@@ -1,16 +1,16 @@
 use Prim.Native.Nat.{_-_}
 use native.Mathlib.Omega.{arith}
 use borrow.Author.Needs.{needs}
-use Rattle.laws.specs.Loops.{Filling, filling-first, filling-more}
+use Rattle.laws.specs.Loops.{FilledTo, filled-none, filled-more}
 use Rattle.sets.specs.Set.{rowsFrom}
 use Rattle.sets.specs.GridLaws.{too-short, count-fits, coefficients-fit, length-fits, rows-next, rows-filled}
 use Rattle.sets.proofs.grids.read_grid.Statement.{statement}
 use Rattle.sets.proofs.grids.read_grid.Tie as tie
 
-ruleset laws = (needs, filling-first, filling-more, too-short, count-fits, coefficients-fit, length-fits, rows-next, rows-filled)
+ruleset laws = (needs, filled-none, filled-more, too-short, count-fits, coefficients-fit, length-fits, rows-next, rows-filled)
 
 abbrev Inv-loop : tie.InvT-loop
-Inv-loop body rows places grid₀ row₀ grid row = Filling 5 (rowsFrom body) grid row
+Inv-loop body rows places grid₀ row₀ grid row = FilledTo 5 (rowsFrom body) grid row
 
 abbrev μ-loop : tie.MeasureT-loop
 μ-loop body rows places grid₀ row₀ grid row = 5 - row

@@ -1,6 +1,6 @@
 use native.Mathlib.Omega.{arith}
 use borrow.Author.Needs.{needs}
-use Rattle.refusals.specs.TestsLaws.{read-as}
+use Rattle.laws.specs.SignedBits.{read-as}
 use Rattle.sets.specs.GridLaws.{row-start-small, absent-row, absent-place, present-place, place-there}
 use Rattle.sets.proofs.grids.read_place.Statement.{statement}
 use Rattle.sets.proofs.grids.read_place.Tie as tie

@@ -1,16 +1,16 @@
 use Prim.Native.Nat.{_-_}
 use borrow.Author.Needs.{needs}
-use Rattle.laws.specs.Loops.{Filling, filling-first, filling-more}
+use Rattle.laws.specs.Loops.{FilledTo, filled-none, filled-more}
 use Rattle.sets.specs.Set.{rowFrom}
-use Rattle.refusals.specs.TestsLaws.{read-as}
+use Rattle.laws.specs.SignedBits.{read-as}
 use Rattle.sets.specs.GridLaws.{row-next, row-filled}
 use Rattle.sets.proofs.grids.read_row.Statement.{statement}
 use Rattle.sets.proofs.grids.read_row.Tie as tie
 
-ruleset laws = (needs, filling-first, filling-more, row-next, row-filled, read-as)
+ruleset laws = (needs, filled-none, filled-more, row-next, row-filled, read-as)
 
 abbrev Inv-loop : tie.InvT-loop
-Inv-loop body rows places row coefficients₀ place₀ coefficients place = Filling 5 (rowFrom body row) coefficients place
+Inv-loop body rows places row coefficients₀ place₀ coefficients place = FilledTo 5 (rowFrom body row) coefficients place
 
 abbrev μ-loop : tie.MeasureT-loop
 μ-loop body rows places row coefficients₀ place₀ coefficients place = 5 - place

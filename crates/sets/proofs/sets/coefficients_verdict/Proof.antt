@@ -1,6 +1,6 @@
 use Prim.Native.Nat.{_-_}
 use borrow.Author.Needs.{needs}
-use Rattle.refusals.specs.FieldsVerdictLaws.{RightBefore}
+use Rattle.refusals.specs.FieldsVerdictLaws.{FieldsRightBefore}
 use Rattle.refusals.specs.TestsLaws.{loop}
 use Rattle.sets.specs.Set.{coefficientField}
 use Rattle.sets.proofs.sets.coefficients_verdict.Statement.{statement}
@@ -9,7 +9,7 @@ use Rattle.sets.proofs.sets.coefficients_verdict.Tie as tie
 ruleset laws = (needs, loop)
 
 abbrev Inv-loop : tie.InvT-loop
-Inv-loop body count number i₀ i = RightBefore number (coefficientField body) count i
+Inv-loop body count number i₀ i = FieldsRightBefore number (coefficientField body) count i
 
 abbrev μ-loop : tie.MeasureT-loop
 μ-loop body count number i₀ i = count - i

@@ -1,11 +1,11 @@
 use borrow.Author.Needs.{needs}
 use Rattle.refusals.specs.TestsLaws.{fields}
 use Rattle.sets.specs.Set.{setFields}
-use Rattle.sets.specs.SetLaws.{length-told, other-length-told, multiplier-told, offset-told, coefficients-judged}
+use Rattle.sets.specs.SetLaws.{length-told, other-length-told, multiplier-told, offset-told, coefficients-verdict-is}
 use Rattle.sets.proofs.sets.prescales_verdict.Statement.{statement}
 use Rattle.sets.proofs.sets.prescales_verdict.Tie as tie
 
-ruleset laws = (fields, length-told, other-length-told, multiplier-told, offset-told, coefficients-judged)
+ruleset laws = (fields, length-told, other-length-told, multiplier-told, offset-told, coefficients-verdict-is)
 
 coefficient-count-requires : tie.Need-coefficient-count-requires
 coefficient-count-requires c κs = search needs

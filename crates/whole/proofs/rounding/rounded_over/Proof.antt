@@ -9,90 +9,120 @@ use lib.IntN.{ℤ, pos, negℤ, natAbs, _+ℤ_, _-ℤ_}
 use lib.Pow.{pow-pos}
 use lib.Signed.{ltZ, shrZ, mag-shr}
 use mir.Syntax.{w64}
-use mir.Val.{SFits, toZ, ofZ}
-use mir.Facts.{toZ-ofZ}
+use mir.Val.{SFits, toZ}
+use mir.Facts.{toZ-ofZ, toZ-pos}
 use Rattle.laws.specs.Linear.{over, under, sum-parts, negated-over, negated-under, parts-of-less, parts-of-not-less}
-use Rattle.laws.specs.Pattern.{fits-64, parts-that-fit, distance-of-fitting, sum-fits-64}
+use Rattle.laws.specs.SignedBits.{highest64, fits-64, parts-that-fit, distance-of-fitting, sum-fits-64, kept, Exact, exact}
 use Rattle.whole.specs.Rounded.{rounded}
 use Rattle.whole.specs.RoundedLaws.{rounded-high, rounded-by-more, rounded-by-less}
 use Rattle.whole.proofs.rounding.rounded_over.Statement.{statement}
 use Rattle.whole.proofs.rounding.rounded_over.Tie as tie
 
+-- ---- whole numbers: the test says which sum has room
+
 module _ (n : ℤ) (h : ℕ) (f : SFits w64 n) (g : h < 2 ^ 32) where
-  room : ℤ
-  room = pos 9223372036854775807 -ℤ pos h
+  -- the highest number to which h can be added
+  last : ℤ
+  last = pos highest64 -ℤ pos h
 
-  room-parts : over room + h ≡ 9223372036854775807 + under room
-  unfolding room
-  room-parts = omega (arith, sum-parts (pos 9223372036854775807) (negℤ (pos h)), negated-over (pos h), negated-under (pos h))
+  last-parts : over last + h ≡ highest64 + under last
+  unfolding last
+  last-parts = omega (arith, sum-parts (pos highest64) (negℤ (pos h)), negated-over (pos h), negated-under (pos h))
 
-  near : ltZ room n ≡ true → h + under n ≤ over n
-  near e = omega (arith, parts-of-less room n e, room-parts)
+  near : ltZ last n ≡ true → h + under n ≤ over n
+  near e = omega (arith, parts-of-less last n e, last-parts)
 
-  less-fits : ltZ room n ≡ true → SFits w64 (n -ℤ pos h)
+  less-fits : ltZ last n ≡ true → SFits w64 (n -ℤ pos h)
   less-fits e =
       let p = parts-that-fit n f in
       let o = negated-over (pos h) in
       let u = negated-under (pos h) in
       sum-fits-64 n (negℤ (pos h)) (omega arith) (omega (arith, near e))
 
-  more-fits : ltZ room n ≡ false → SFits w64 (n +ℤ pos h)
-  more-fits e = let p = parts-that-fit n f in sum-fits-64 n (pos h) (omega (arith, parts-of-not-less room n e, room-parts)) (omega arith)
+  more-fits : ltZ last n ≡ false → SFits w64 (n +ℤ pos h)
+  more-fits e = let p = parts-that-fit n f in sum-fits-64 n (pos h) (omega (arith, parts-of-not-less last n e, last-parts)) (omega arith)
 
 shift-fits : {z : ℤ} (d : ℕ) → SFits w64 z → SFits w64 (shrZ z d)
 shift-fits {z} d f = record { sfits = omega (arith, mag-shr z d, f .sfits) }
 
-module _ (c : tie.Start) where
-  half-is : toZ w64 (c .args .half) ≡ pos (c .args .half)
-  half-is = toZ-ofZ (fits-64 {z = pos (c .args .half)} (omega (arith, c .fits .half .fits)))
+-- ---- the code's numbers
 
-  room-fits : SFits w64 (pos 9223372036854775807 -ℤ pos (c .args .half))
-  room-fits =
-      let o = negated-over (pos (c .args .half)) in
-      let u = negated-under (pos (c .args .half)) in
-      sum-fits-64 (pos 9223372036854775807) (negℤ (pos (c .args .half))) (omega arith) (omega (arith, c .fits .half .fits))
+module _ (s : tie.Start) where
+  small : s .args .half < 2 ^ 32
+  small = omega (arith, s .fits .half .fits)
 
-  -- the test, on whole numbers
-  tested : (t : Bool) → ltZ (toZ w64 (ofZ w64 (pos 9223372036854775807 -ℤ toZ w64 (c .args .half)))) (toZ w64 (ofZ w64 (c .args .n))) ≡ t → ltZ (pos 9223372036854775807 -ℤ pos (c .args .half)) (c .args .n) ≡ t
-  tested t e = rw (half-is, toZ-ofZ room-fits, toZ-ofZ (c .fits .n)) at e
+  half-is : toZ w64 (s .args .half) ≡ pos (s .args .half)
+  half-is = toZ-pos w64 (omega (arith, small))
 
-  at-least-one : 0 < c .args .half
-  at-least-one = omega (arith, pow-pos (c .args .power), c .pre .0)
+  highest : Exact w64 (pos highest64 -ℤ toZ w64 (s .args .half)) (pos highest64 -ℤ pos (s .args .half))
+  highest =
+      let o = negated-over (pos (s .args .half)) in
+      let u = negated-under (pos (s .args .half)) in
+      exact w64 (rw half-is) (sum-fits-64 (pos highest64) (negℤ (pos (s .args .half))) (omega arith) (omega (arith, small)))
 
-  result-fits : SFits w64 (rounded (c .args .n) (2 ^ c .args .power))
+  tested : (t : Bool) → ltZ (kept w64 (pos highest64 -ℤ toZ w64 (s .args .half))) (kept w64 (s .args .n)) ≡ t
+      → ltZ (pos highest64 -ℤ pos (s .args .half)) (s .args .n) ≡ t
+  tested t e = rw (highest .back, toZ-ofZ (s .fits .n)) at e
+
+  at-least-one : 0 < s .args .half
+  at-least-one = omega (arith, pow-pos (s .args .power), s .pre .0)
+
+  result-fits : SFits w64 (rounded (s .args .n) (2 ^ s .args .power))
   result-fits =
-      let d = 2 ^ c .args .power in
-      let two : 2 ≤ d = omega (arith, at-least-one, c .pre .0) in
-      let far : natAbs (c .args .n) ≤ 2 ^ 62 * d = omega (arith, distance-of-fitting (c .args .n) (c .fits .n), mul-le-mul-left (2 ^ 62) two) in
-      fits-64 (omega (arith, rounded-high d (omega arith) (c .args .n) (2 ^ 62) far))
+      let d = 2 ^ s .args .power in
+      let two : 2 ≤ d = omega (arith, at-least-one, s .pre .0) in
+      let far : natAbs (s .args .n) ≤ 2 ^ 62 * d = omega (arith, distance-of-fitting (s .args .n) (s .fits .n), mul-le-mul-left (2 ^ 62) two) in
+      fits-64 (omega (arith, rounded-high d (omega arith) (s .args .n) (2 ^ 62) far))
 
+-- n is near the highest number
 module _ (c : tie.Then1) where
-  above : ltZ (pos 9223372036854775807 -ℤ pos (c .before .args .half)) (c .before .args .n) ≡ true
+  abbrev difference : ℤ
+  difference = kept w64 (c .before .args .n) -ℤ toZ w64 (c .before .args .half)
+
+  above : ltZ (pos highest64 -ℤ pos (c .before .args .half)) (c .before .args .n) ≡ true
   above = tested (c .before) true (search needs)
 
   less : SFits w64 (c .before .args .n -ℤ pos (c .before .args .half))
-  unfolding room
-  less = less-fits (c .before .args .n) (c .before .args .half) (c .before .fits .n) (omega (arith, c .before .fits .half .fits)) above
+  unfolding last
+  less = let s = c .before in less-fits (s .args .n) (s .args .half) (s .fits .n) (small s) above
 
-  by-less : shrZ (c .before .args .n -ℤ pos (c .before .args .half)) (2 ^ c .before .args .power) +ℤ pos 1 ≡ rounded (c .before .args .n) (2 ^ c .before .args .power)
-  unfolding room
-  by-less =
-      let b = c .before in
-      rounded-by-less (b .args .n) (b .args .half) _ (b .pre .0) (at-least-one b) (near (b .args .n) (b .args .half) (b .fits .n) (omega (arith, b .fits .half .fits)) above)
+  difference-exact : Exact w64 difference (c .before .args .n -ℤ pos (c .before .args .half))
+  difference-exact = exact w64 (rw (toZ-ofZ (c .before .fits .n), half-is (c .before))) less
 
+  result-exact : Exact w64 (kept w64 (shrZ (kept w64 difference) (2 ^ c .before .args .power)) +ℤ pos 1) (rounded (c .before .args .n) (2 ^ c .before .args .power))
+  unfolding last
+  result-exact =
+      let s = c .before in
+      let by-less = rounded-by-less (s .args .n) (s .args .half) _ (s .pre .0) (at-least-one s) (near (s .args .n) (s .args .half) (s .fits .n) (small s) above) in
+      exact w64 (rw (difference-exact .back, toZ-ofZ (shift-fits (2 ^ s .args .power) less)) by-less) (result-fits s)
+
+-- n is not
 module _ (c : tie.Else1) where
+  abbrev sum : ℤ
+  sum = kept w64 (c .before .args .n) +ℤ toZ w64 (c .before .args .half)
+
   more : SFits w64 (c .before .args .n +ℤ pos (c .before .args .half))
-  unfolding room
-  more = more-fits (c .before .args .n) (c .before .args .half) (c .before .fits .n) (omega (arith, c .before .fits .half .fits)) (tested (c .before) false (search needs))
+  unfolding last
+  more = let s = c .before in more-fits (s .args .n) (s .args .half) (s .fits .n) (small s) (tested s false (search needs))
+
+  sum-exact : Exact w64 sum (c .before .args .n +ℤ pos (c .before .args .half))
+  sum-exact = exact w64 (rw (toZ-ofZ (c .before .fits .n), half-is (c .before))) more
+
+  sum-quotient-exact : Exact w64 (shrZ (kept w64 sum) (2 ^ c .before .args .power)) (rounded (c .before .args .n) (2 ^ c .before .args .power))
+  sum-quotient-exact =
+      let s = c .before in
+      exact w64 (rw (sum-exact .back) (rounded-by-more (s .args .n) (s .args .half) _ (s .pre .0))) (result-fits s)
+
+-- ---- the needs
 
 cast-more : tie.Need-cast-more
 cast-more c = search needs
 
 sub-if1 : tie.Need-sub-if1
-sub-if1 c = rw (half-is c) (room-fits c)
+sub-if1 c = highest c .fits
 
 sub-result : tie.Need-sub-result
-sub-result c = rw (toZ-ofZ (c .before .fits .n), half-is (c .before)) (less c)
+sub-result c = difference-exact c .fits
 
 cast-result : tie.Need-cast-result
 cast-result c = search needs
@@ -101,17 +131,13 @@ shr-result : tie.Need-shr-result
 shr-result c = search needs
 
 add-result : tie.Need-add-result
-add-result c =
-    rw (toZ-ofZ (c .before .fits .n), half-is (c .before), toZ-ofZ (less c), toZ-ofZ (shift-fits (2 ^ c .before .args .power) (less c)), by-less c)
-    (result-fits (c .before))
+add-result c = result-exact c .fits
 
 returns : tie.Need-returns
-returns c =
-    rw (toZ-ofZ (c .before .fits .n), half-is (c .before), toZ-ofZ (less c), toZ-ofZ (shift-fits (2 ^ c .before .args .power) (less c)), by-less c)
-    (toZ-ofZ (result-fits (c .before)))
+returns c = result-exact c .back
 
 add-result-2 : tie.Need-add-result-2
-add-result-2 c = rw (toZ-ofZ (c .before .fits .n), half-is (c .before)) (more c)
+add-result-2 c = sum-exact c .fits
 
 cast-result-2 : tie.Need-cast-result-2
 cast-result-2 c = search needs
@@ -120,10 +146,7 @@ shr-result-2 : tie.Need-shr-result-2
 shr-result-2 c = search needs
 
 returns-2 : tie.Need-returns-2
-returns-2 c =
-    let b = c .before in
-    rw (toZ-ofZ (b .fits .n), half-is b, toZ-ofZ (more c), toZ-ofZ (shift-fits (2 ^ b .args .power) (more c)))
-    (rounded-by-more (b .args .n) (b .args .half) _ (b .pre .0))
+returns-2 c = sum-quotient-exact c .back
 
 pub rounded-over-spec : {M : Type 1} → statement M
 rounded-over-spec =

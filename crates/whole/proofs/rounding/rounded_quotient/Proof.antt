@@ -7,11 +7,11 @@ use Rattle.whole.proofs.rounding.rounded_quotient.Tie as tie
 returns : tie.Need-returns
 returns c = search (needs, rounded-of-zero)
 
-div-whole : tie.Need-div-whole
-div-whole c = search needs
+div-quotient : tie.Need-div-quotient
+div-quotient c = search needs
 
-rem-rest : tie.Need-rem-rest
-rem-rest c = search needs
+rem-remainder : tie.Need-rem-remainder
+rem-remainder c = search needs
 
 sub-if2 : tie.Need-sub-if2
 sub-if2 c = search needs
@@ -27,4 +27,4 @@ returns-3 c = rounded-down _ _ (search needs) (omega arith)
 
 pub rounded-quotient-spec : {M : Type 1} → statement M
 rounded-quotient-spec =
-    tie.close (tie.spec returns div-whole rem-rest sub-if2 add-result returns-2 returns-3)
+    tie.close (tie.spec returns div-quotient rem-remainder sub-if2 add-result returns-2 returns-3)

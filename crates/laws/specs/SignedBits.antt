@@ -17,6 +17,10 @@ magnitude-bounds : (z : ℤ) → mag z ≤ natAbs z
 magnitude-bounds (pos n) = le-refl n
 magnitude-bounds (negsuc n) = omega arith
 
+-- the highest of 64 bits; the lowest is negsuc of it
+abbrev pub highest64 : ℕ
+highest64 = 9223372036854775807
+
 pub fits-64 : {z : ℤ} → natAbs z < 2 ^ 63 → SFits w64 z
 fits-64 {z} h = let m = magnitude-bounds z in record { sfits = omega arith }
 
@@ -36,9 +40,29 @@ sum-fits-64 a b h k = go (a +ℤ b) (sum-parts a b)
     go (pos n) e = record { sfits = omega arith }
     go (negsuc n) e = record { sfits = omega arith }
 
--- what a call gave is read back from its bits; its range is the field `ok`
-pub read-back : (w : Width) (z : ℤ) → mag z < 2 ^ hbits w → toZ w (ofZ w z) ≡ z
+-- ---- the way back from the bits
+
+-- what the bits of a width keep of z
+abbrev pub kept : (w : Width) → ℤ → ℤ
+kept w z = toZ w (ofZ w z)
+
+-- all of it where z fits; what a call gave has its range in the field `ok`
+pub read-back : (w : Width) (z : ℤ) → mag z < 2 ^ hbits w → kept w z ≡ z
 read-back w z h = toZ-ofZ (record { sfits = h })
+
+-- and what the call's contract says of it
+pub read-as : (w : Width) (x z : ℤ) → mag x < 2 ^ hbits w → x ≡ z → kept w x ≡ z
+read-as w x z h e = read-back w x h ∙ e
+
+-- the code works out x, of numbers that it read from their bits: it fits, and is kept as z
+pub record Exact (w : Width) (x z : ℤ) : Type 0 where
+  pub fits : SFits w x
+  pub back : kept w x ≡ z
+
+pub exact : (w : Width) {x z : ℤ} → x ≡ z → SFits w z → Exact w x z
+exact w e f = record { fits = rw e f; back = rw e (toZ-ofZ f) }
+
+-- ---- below zero
 
 -- -1 - y turns a natural into the negative number that comes as far after -1, and back
 pub past-minus-one : (y : ℕ) → negsuc 0 -ℤ pos y ≡ negsuc y
