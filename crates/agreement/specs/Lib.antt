@@ -9,7 +9,7 @@ pub mod LayoutAgrees
 pub mod FinderAgrees
 pub mod BuilderTableLaws
 pub mod BuilderAgrees
-pub mod LaidAnew
+pub mod SameBodies
 pub mod BodiesAgree
 pub mod VerdictAgrees
 pub mod ValueLaws

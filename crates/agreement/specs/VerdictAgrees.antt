@@ -25,7 +25,7 @@ use Rattle.image.specs.Find.{bodyOf, isThere}
 use Rattle.image.specs.OrderLaws.{Ascending, sections-ascend}
 use Rattle.panel.specs.Levels.{isLevel, knows, mayPass}
 use Rattle.panel.specs.Verdict.{levelVerdict, unknownVerdict, missingVerdict, kindVerdict, thereVerdict, kindsVerdict, bodiesVerdict, sectionsVerdict, verdictOf}
-use Rattle.agreement.specs.TableLaws.{Gives, Judges, judged-alone, none-before, none-after, gives-append, gives-then, Single, single-append, row-once, lowest-once, refused-exactly, accepted-exactly}
+use Rattle.agreement.specs.TableLaws.{Gives, Judges, none-before, none-after, gives-append, gives-then, Single, single-append, row-once, lowest-once, refused-exactly, accepted-exactly}
 use Rattle.agreement.specs.TestsLaws.{Fails, fails-as, Passes, passes-eq, passes-or, passes-never, passes-as, passes-fails, ask-judges, judges-as}
 use Rattle.agreement.specs.FieldsAgree.{number-same}
 use Rattle.agreement.specs.KindsAgree.{later-above, found-is-had, had-is-found, there-passes}
@@ -139,7 +139,8 @@ module _ (level : ℕ) (image : List ℕ) (known : IsLevel level) (good : layout
             (kindVerdict kind body) (judges body)
 
     -- where a condition holds beside it
-    also-judges : (Also : Type 0) → Also → Judges (row number 0 (Also × BodyWrong image kind Wrong)) (thereVerdict (kindVerdict kind) (bodyOf kind (sections image)))
+    also-judges : (Also : Type 0) → Also
+        → Judges (row number 0 (Also × BodyWrong image kind Wrong)) (thereVerdict (kindVerdict kind) (bodyOf kind (sections image)))
     also-judges Also holds = judges-as number 0 (λ w. (holds, w)) (λ w. w .1) (thereVerdict (kindVerdict kind) (bodyOf kind (sections image))) body-judges
 
   -- one kind more, by its row

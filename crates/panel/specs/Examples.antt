@@ -18,13 +18,16 @@ abbrev pub image : (kind : ℕ) → List ℕ
 image kind = 0x51 ∷ 0x01 ∷ kind ∷ 0x00 ∷ 0x0A ∷ 0x00 ∷ 0x00 ∷ 0x00 ∷ 0x00 ∷ 0x00 ∷ []
 
 pub level-1 : verdictOf 1 (image 200) ≡ Refused (refusal 10 1)
-unfolding verdictOf sectionsVerdict unknownVerdict missingVerdict knows sections sectionsFrom bodyOf layoutVerdict contentsVerdict startVerdict countVerdict linesVerdict sumsVerdict numberAt littleEndian total
+unfolding verdictOf sectionsVerdict unknownVerdict missingVerdict knows sections sectionsFrom bodyOf
+    layoutVerdict contentsVerdict startVerdict countVerdict linesVerdict sumsVerdict numberAt littleEndian total
 level-1 = refl
 
 pub level-2 : verdictOf 2 (image 200) ≡ Refused (refusal 10 1)
-unfolding verdictOf sectionsVerdict unknownVerdict missingVerdict knows sections sectionsFrom bodyOf layoutVerdict contentsVerdict startVerdict countVerdict linesVerdict sumsVerdict numberAt littleEndian total
+unfolding verdictOf sectionsVerdict unknownVerdict missingVerdict knows sections sectionsFrom bodyOf
+    layoutVerdict contentsVerdict startVerdict countVerdict linesVerdict sumsVerdict numberAt littleEndian total
 level-2 = refl
 
 pub unknown-127 : verdictOf 1 (image 127) ≡ Refused (refusal 9 127)
-unfolding verdictOf sectionsVerdict unknownVerdict missingVerdict knows sections sectionsFrom bodyOf layoutVerdict contentsVerdict startVerdict countVerdict linesVerdict sumsVerdict numberAt littleEndian total
+unfolding verdictOf sectionsVerdict unknownVerdict missingVerdict knows sections sectionsFrom bodyOf
+    layoutVerdict contentsVerdict startVerdict countVerdict linesVerdict sumsVerdict numberAt littleEndian total
 unknown-127 = refl

@@ -1,4 +1,4 @@
--- Each way out of the tests of a level and a kind.
+-- A law for each return of the tests of a level and a kind.
 use mathlib.Core.Path.{_≡_, refl, sym, _∙_}
 use mathlib.Core.Bool.{Bool, true, false, _||_, or-false, true≢false, false≢true}
 use Prim.Native.Nat.{ℕ}

@@ -1,4 +1,4 @@
--- Each way out of a load.
+-- A law for each return of a load.
 use mathlib.Core.Path.{_≡_, sym, _∙_}
 use mathlib.Core.List.{List}
 use Prim.Native.Nat.{ℕ}
@@ -36,7 +36,8 @@ module _ (level size : ℕ) (before part : List ℕ) (v : Verdict) (p : part ≡
   pub keeps-accepted : v ≡ Accepted → Keeps level size before (Length size) before
   keeps-accepted a = record { answers = rw (judged-part, a); holds = rw (judged-part, a) }
 
-  pub keeps-refused : (r : Refusal) (last : Filled) (cleared : List ℕ) → v ≡ NotAccepted r → Settled (Refused r) before last cleared → Keeps level size before last cleared
+  pub keeps-refused : (r : Refusal) (last : Filled) (cleared : List ℕ) → v ≡ NotAccepted r → Settled (Refused r) before last cleared
+      → Keeps level size before last cleared
   keeps-refused r last cleared a s = record { answers = rw (judged-part, a) (s .same); holds = rw (judged-part, a) (s .cleared) }
 
 -- ---- the load

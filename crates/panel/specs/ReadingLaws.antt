@@ -1,4 +1,4 @@
--- Each way out of the reading of an image.
+-- A law for each return of the reading of an image.
 use mathlib.Core.Path.{_≡_}
 use mathlib.Core.List.{List}
 use Prim.Native.Nat.{ℕ, _≤_, _<_}

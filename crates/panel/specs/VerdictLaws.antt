@@ -1,4 +1,4 @@
--- Each way out of the checks of a panel.
+-- A law for each return of the checks of a panel.
 use mathlib.Core.Path.{_≡_, sym, _∙_}
 use mathlib.Core.Bool.{Bool, true, false, not}
 use mathlib.Core.List.{List}

@@ -27,11 +27,11 @@ use Rattle.builder.specs.Lines.{linesOf}
 use Rattle.builder.specs.BuildLaws.{passes, lines-counted, lines-rise, lines-total, sections-again}
 use Rattle.agreement.specs.KindsAgree.{found-is-had, had-is-found, none-had}
 use Rattle.agreement.specs.LayoutAgrees.{layout-accepted-exactly}
-use Rattle.agreement.specs.LaidAnew.{laid-once}
+use Rattle.agreement.specs.SameBodies.{laid-once}
 use Rattle.agreement.specs.VerdictAgrees.{verdict-accepted-exactly, accepted-readable}
 use Rattle.image.specs.Merged.{merged, holds, EachKind, EachOnce as EachKindOnce, IsKind}
 use Rattle.image.specs.MergedLaws.{body-of-merged, merged-fit}
-use Rattle.promises.specs.Further.{Among, HasSection, EachOnce, Further, LaidAnew}
+use Rattle.promises.specs.LaidOutAnew.{Among, HasSection, EachOnce, FurtherSections, LaidAnew}
 
 -- ---- a section among others, and its body
 
@@ -83,7 +83,7 @@ ascending-once previous (s ∷ ss) rising = (
 
 -- ---- the builder lays it out
 
-module _ (level : ℕ) (image : List ℕ) (further : List Section) (bytes : Bytes image) (f : Further level image further) (once : EachOnce further)
+module _ (level : ℕ) (image : List ℕ) (further : List Section) (bytes : Bytes image) (f : FurtherSections level image further) (once : EachOnce further)
     (kinds : (kind : ℕ) → HasSection kind further → IsKind kind) (few : length (sections image) + length further ≤ 16)
     (room : 2 + 8 * (length (sections image) + length further) + (length (bodiesOf (sections image)) + length (bodiesOf further)) ≤ 4096) where
   abbrev all : List Section

@@ -12,7 +12,7 @@ use Rattle.laws.specs.Cases.{split}
 use Rattle.image.specs.Sections.{Section}
 use Rattle.agreement.specs.TableLaws.{none-append, none-after, first-append}
 use Rattle.agreement.specs.VerdictAgrees.{none-without-lowest}
-use Rattle.promises.specs.Further.{HasSection, Further, LaidAnew, AllHigh, LowestLow}
+use Rattle.promises.specs.LaidOutAnew.{HasSection, FurtherSections, LaidAnew, AllHigh, LowestLow}
 
 -- ---- of an image that a panel accepts
 
@@ -70,7 +70,7 @@ names-unknown level image kind is-level good lowest =
 
 -- ---- laid out anew
 
-module _ (level : ℕ) (image : List ℕ) (further : List Section) (anew : List ℕ) (f : Further level image further) (laid : LaidAnew image further anew) where
+module _ (level : ℕ) (image : List ℕ) (further : List Section) (anew : List ℕ) (f : FurtherSections level image further) (laid : LaidAnew image further anew) where
   still-there : (kind : ℕ) → HasKind image kind → HasKind anew kind
   still-there kind h = laid .has kind _ .1 (inl (record { has = h; is = refl })) .has
 

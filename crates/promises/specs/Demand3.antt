@@ -24,15 +24,15 @@ use Rattle.panel.specs.Verdict.{verdictOf}
 use Rattle.panel.specs.Reading.{sectionsReading, afterVerdict, readingOf}
 use Rattle.agreement.specs.KindsAgree.{there-passes}
 use Rattle.agreement.specs.LayoutAgrees.{layout-accepted-exactly}
-use Rattle.agreement.specs.LaidAnew.{found-same}
+use Rattle.agreement.specs.SameBodies.{found-same}
 use Rattle.agreement.specs.VerdictAgrees.{verdict-refused-exactly, verdict-accepted-exactly, accepted-readable}
-use Rattle.promises.specs.Further.{Further, LaidAnew, AllHigh, LowestLow}
-use Rattle.promises.specs.Lower.{Below}
+use Rattle.promises.specs.LaidOutAnew.{FurtherSections, LaidAnew, AllHigh, LowestLow}
+use Rattle.promises.specs.LowerLevel.{LowerLevel}
 use Rattle.promises.specs.AnewLaws.{anew-accepted, anew-names, high-or-lowest, none-unknown, still-accepted, names-unknown}
 
 -- ---- further sections
 
-module _ (level : ℕ) (image : List ℕ) (further : List Section) (anew : List ℕ) (f : Further level image further) (laid : LaidAnew image further anew) where
+module _ (level : ℕ) (image : List ℕ) (further : List Section) (anew : List ℕ) (f : FurtherSections level image further) (laid : LaidAnew image further anew) where
   was-accepted : verdictOf level image ≡ Accepted
   was-accepted = verdict-accepted-exactly level image .1 (f .accepted)
 
@@ -81,7 +81,7 @@ high-or-low = high-or-lowest
 
 -- ---- a level and a lower one
 
-module _ (lower higher : ℕ) (below : Below lower higher) (image : List ℕ) (counts : Counts) (reading : Reading)
+module _ (lower higher : ℕ) (below : LowerLevel lower higher) (image : List ℕ) (counts : Counts) (reading : Reading)
     (shown : readingOf higher image counts ≡ Shown reading) where
   accepted : verdictOf higher image ≡ Accepted
   unfolding readingOf
@@ -115,7 +115,7 @@ module _ (lower higher : ℕ) (below : Below lower higher) (image : List ℕ) (c
 
 -- ---- levels 1 and 2
 
-one-below-two : Below 1 2
+one-below-two : LowerLevel 1 2
 one-below-two = record { level = inl refl; grows = λ kind. ⊎-elim (λ (l, h, k). inl (inr refl, h, k)) (λ (e, k). absurd (omega arith)) }
 
 module _ (image : List ℕ) (counts : Counts) (reading : Reading) (shown : readingOf 2 image counts ≡ Shown reading) where

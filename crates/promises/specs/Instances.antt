@@ -38,11 +38,11 @@ use Rattle.hexwrite.proofs as hexwrite
 use Rattle.agreement.specs.KindsAgree.{none-found, found-is-had}
 use Rattle.agreement.specs.VerdictAgrees.{verdict-accepted-exactly, accepted-readable}
 use Rattle.image.specs.Merged.{merged, IsKind}
-use Rattle.promises.specs.Further.{HasSection, EachOnce, Further, LaidAnew, AllHigh, LowestLow}
+use Rattle.promises.specs.LaidOutAnew.{HasSection, EachOnce, FurtherSections, LaidAnew, AllHigh, LowestLow}
 use Rattle.promises.specs.AnewBuilt.{anew-laid, ascending-once}
 use Rattle.promises.specs.Demand1.{no-reading-after, no-reading-after-load}
 use Rattle.promises.specs.Demand3.{high-verdict, high-reading, low-verdict, low-reading, without-trim, with-trim}
-use Rattle.promises.specs.Whole.{whole-loads}
+use Rattle.promises.specs.EndToEnd.{sections-loads}
 use Rattle.paper.specs.WorkedImage.{trimBytes, workedImage, untrimmedImage}
 use Rattle.promises.specs.WorkedReadings.{worked-sections, untrimmed-sections, untrimmed-accepted-at-2, worked-accepted, untrimmed-at-2, counted, readings-at-1, readings-at-2}
 
@@ -87,7 +87,7 @@ untrimmed-good = accepted-readable 2 untrimmedImage untrimmed-accepted-at-2 .goo
 
 module _ (further : List Section) (new : (kind : ℕ) → HasSection kind further → bodyOf kind (sections untrimmedImage) ≡ none)
     (unknown : (kind : ℕ) → HasSection kind further → Not (Knows 2 kind)) where
-  are-further : Further 2 untrimmedImage further
+  are-further : FurtherSections 2 untrimmedImage further
   are-further =
       record {
         accepted = verdict-accepted-exactly 2 untrimmedImage .0 untrimmed-accepted-at-2;
@@ -99,7 +99,7 @@ module _ (further : List Section) (new : (kind : ℕ) → HasSection kind furthe
 unknown-2 : (kind : ℕ) → 5 ≤ kind → Not (kind ≡ 129) → Not (Knows 2 kind)
 unknown-2 kind h n = ⊎-elim (λ (l, low, high). omega arith) (λ (e, k). ⊎-elim (λ four. omega arith) n k)
 
-further-high : Further 2 untrimmedImage highSections
+further-high : FurtherSections 2 untrimmedImage highSections
 unfolding bodyOf
 further-high = are-further highSections new unknown
   where
@@ -143,7 +143,7 @@ high-reading-met =
     high-reading 2 untrimmedImage highSections anewHigh further-high anew-high all-high insideCounts ∙ untrimmed-at-2 insideCounts ∙ readings-at-1 .0
 
 -- of kinds 200, 127 and 5 the panel names 5
-further-mixed : Further 2 untrimmedImage mixedSections
+further-mixed : FurtherSections 2 untrimmedImage mixedSections
 unfolding bodyOf
 further-mixed = are-further mixedSections new unknown
   where
@@ -242,7 +242,7 @@ worked-written =
 pub worked-loads : answerTo (loadText 2 4096 (take 700 textBuffer)) ≡ Length 248
 worked-loads =
     let outcome = loadText 2 4096 (take 700 textBuffer) in
-    whole-loads 2 workedSections once-worked buffer imageBuffer (replicate 1000 7) textBuffer buffer (heldAfter 4096 outcome) 248 700
+    sections-loads 2 workedSections once-worked buffer imageBuffer (replicate 1000 7) textBuffer buffer (heldAfter 4096 outcome) 248 700
     (answerTo outcome) (sections-bytes workedImage worked-bytes worked-good) worked-built worked-accepted worked-written (omega arith)
     (record { answers = refl; holds = refl })
   where

@@ -1,10 +1,10 @@
 pub mod Answers
-pub mod Further
-pub mod Lower
+pub mod LaidOutAnew
+pub mod LowerLevel
 pub mod Demand1
 pub mod Demand2
 pub mod Demand3
-pub mod Whole
+pub mod EndToEnd
 pub mod Starred
 pub mod WorkedReadings
 pub mod AnswersLaws

@@ -20,12 +20,12 @@ use Rattle.image.specs.Examples.{contents-overrun}
 use Rattle.bodies.specs.Identity.{identityVerdict}
 use Rattle.bodies.specs.Trim.{trimOf, trimFields, trimVerdict}
 use Rattle.bodies.specs.Examples.{leapDay, leap-day-2004, leap-day-2003}
-use Rattle.sets.specs.Set.{setOf, setFields, setVerdict, rowFrom, rowsFrom, gridOf}
+use Rattle.sets.specs.Set.{setOf, setFields, setVerdict, rowFrom, rowsFrom}
 use Rattle.reading.specs.declared.value.Value.the-variants.{Known, Refused}
 use Rattle.reading.specs.Value.{within}
 use Rattle.reading.specs.Frequency.{frequencyOf, scaledOf, prescaledOf}
 use Rattle.reading.specs.Gauge.{calibratedSet}
-use Rattle.reading.specs.Polynomial.{nestedSum, stepOf, rowSum, rowStep, gridSum, setResult}
+use Rattle.reading.specs.Polynomial.{nestedSum, stepOf, rowSum, rowStep, setResult}
 use Rattle.reading.specs.Measured.{trimmedBy}
 use Rattle.reading.specs.Examples.{frequency-whole, frequency-half, frequency-lowest, frequency-highest, frequency-too-low, frequency-too-high, frequency-of-77}
 

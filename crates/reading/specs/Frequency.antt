@@ -4,6 +4,7 @@ use Prim.Native.Nat.{ℕ, _*_, _^_}
 use lib.Dec.{leb, eqb}
 use lib.IntN.{ℤ, pos, _-ℤ_, _*ℤ_}
 use lib.Signed.{leZ}
+use Rattle.limits.specs.Limits.{highestFrequency, largestX}
 use Rattle.whole.specs.Rounded.{rounded}
 use Rattle.refusals.specs.Refusals.{ask}
 use Rattle.sets.specs.declared.Prescale.{Prescale}
@@ -19,12 +20,12 @@ unfoldable pub frequencyOf : (channel ns nr : ℕ) → Value
 frequencyOf channel ns nr =
     given (ask (leb 1 ns && leb ns 1048576) 21 channel)
     (given (ask (leb 1 nr) 22 channel)
-    (given (ask (leZ (pos 655360000) (hertz ns nr) && leZ (hertz ns nr) (pos 6553600000)) 23 channel)
+    (given (ask (leZ (pos 655360000) (hertz ns nr) && leZ (hertz ns nr) (pos highestFrequency)) 23 channel)
     (Known (hertz ns nr))))
 
 -- X = M × (F - F0) / 2^32 rounded; 2^24 stands for 1, and 24 is given beyond it
 unfoldable pub scaledOf : (detail multiplier : ℕ) → (difference : ℤ) → Value
-scaledOf detail multiplier difference = within (2 ^ 24) 24 detail (rounded (pos multiplier *ℤ difference) (2 ^ 32))
+scaledOf detail multiplier difference = within largestX 24 detail (rounded (pos multiplier *ℤ difference) (2 ^ 32))
 
 -- where the order is 0 nothing is worked out: the coefficients that X would meet are absent, and 0 stands in
 unfoldable pub prescaledOf : (detail : ℕ) → Prescale → (frequency : ℤ) → Value

@@ -1,4 +1,4 @@
--- Each way out of `frequency` and of `prescaled`.
+-- A law for each return of `frequency` and of `prescaled`.
 use mathlib.Core.Path.{_≡_, ap, _∙_}
 use mathlib.Core.Bool.{true, false, _&&_}
 use Prim.Native.Nat.{ℕ, _-_, _*_, _/_, _^_, _≤_, _<_}
@@ -11,6 +11,7 @@ use lib.Signed.{leZ}
 use mir.Syntax.{w64}
 use mir.Val.{SFits, toZ}
 use mir.Facts.{toZ-pos}
+use Rattle.limits.specs.Limits.{highestFrequency}
 use Rattle.laws.specs.Cases.{decide, positive, both-left, both-right}
 use Rattle.laws.specs.Magnitude.{magnitude-product, magnitude-difference, magnitude-difference-low}
 use Rattle.laws.specs.Order.{between}
@@ -46,30 +47,31 @@ module _ (channel ns nr : ℕ) {r : Value} where
       unfolding frequencyOf hertz
       too-slow e h = rw (le-leb 1 ns (positive some), le-leb ns 1048576 few, le-leb 1 nr (positive running), ← is, lt-leb 655360000 q h) e
 
-      pub too-fast : r ≡ Refused (refusal 23 channel) → 6553600000 < q → r ≡ frequencyOf channel ns nr
+      pub too-fast : r ≡ Refused (refusal 23 channel) → highestFrequency < q → r ≡ frequencyOf channel ns nr
       unfolding frequencyOf hertz
       too-fast e h =
           let l : 655360000 ≤ q = omega arith in
-          rw (le-leb 1 ns (positive some), le-leb ns 1048576 few, le-leb 1 nr (positive running), ← is, le-leb 655360000 q l, lt-leb q 6553600000 h) e
+          rw (le-leb 1 ns (positive some), le-leb ns 1048576 few, le-leb 1 nr (positive running), ← is, le-leb 655360000 q l, lt-leb q highestFrequency h) e
 
-      pub counted : r ≡ Known (toZ w64 q) → 655360000 ≤ q → q ≤ 6553600000 → r ≡ frequencyOf channel ns nr
+      pub counted : r ≡ Known (toZ w64 q) → 655360000 ≤ q → q ≤ highestFrequency → r ≡ frequencyOf channel ns nr
       unfolding frequencyOf hertz
       counted e h k =
           let small : q < 2 ^ 63 = omega arith in
-          rw (le-leb 1 ns (positive some), le-leb ns 1048576 few, le-leb 1 nr (positive running), ← is, le-leb 655360000 q h, le-leb q 6553600000 k) (e ∙ ap Known (toZ-pos w64 small))
+          let read : r ≡ Known (pos q) = e ∙ ap Known (toZ-pos w64 small) in
+          rw (le-leb 1 ns (positive some), le-leb ns 1048576 few, le-leb 1 nr (positive running), ← is, le-leb 655360000 q h, le-leb q highestFrequency k) read
 
 -- a frequency that is known is no higher than 23 allows
-pub frequency-bound : (channel ns nr : ℕ) (f : ℤ) → frequencyOf channel ns nr ≡ Known f → natAbs f ≤ 6553600000
+pub frequency-bound : (channel ns nr : ℕ) (f : ℤ) → frequencyOf channel ns nr ≡ Known f → natAbs f ≤ highestFrequency
 unfolding frequencyOf
 frequency-bound channel ns nr f e =
     let low = leZ (pos 655360000) (hertz ns nr) in
-    let high = leZ (hertz ns nr) (pos 6553600000) in
+    let high = leZ (hertz ns nr) (pos highestFrequency) in
     let counted = given (ask (low && high) 23 channel) (Known (hertz ns nr)) in
     let running = given-known (ask (leb 1 ns && leb ns 1048576) 21 channel) (given (ask (leb 1 nr) 22 channel) counted) f e in
     let known = given-known (ask (leb 1 nr) 22 channel) counted f running in
     let same : hertz ns nr ≡ f = cc (given-known (ask (low && high) 23 channel) (Known (hertz ns nr)) f known) in
     let range = given-passed (low && high) 23 channel (Known (hertz ns nr)) f known in
-    rw (← same) (between (hertz ns nr) 655360000 6553600000 (both-left low high range) (both-right low high range))
+    rw (← same) (between (hertz ns nr) 655360000 highestFrequency (both-left low high range) (both-right low high range))
 
 -- ---- X
 
@@ -100,8 +102,8 @@ module _ (detail multiplier : ℕ) (difference : ℤ) where
 
     pub product-fits : natAbs difference ≤ 2 ^ 57 / multiplier → SFits w64 (pos multiplier *ℤ difference)
     product-fits h =
-        fits-64
-        (omega (arith, magnitude-product (pos multiplier) difference, le-div-iff-mul-le {k = multiplier} {x = natAbs difference} {y = 2 ^ 57} (positive some) .0 h))
+        let small = le-div-iff-mul-le {k = multiplier} {x = natAbs difference} {y = 2 ^ 57} (positive some) .0 h in
+        fits-64 (omega (arith, magnitude-product (pos multiplier) difference, small))
 
 module _ (detail : ℕ) (p : Prescale) (f : ℤ) where
   pub order-zero : p .order ≡ 0 → Known (pos 0) ≡ prescaledOf detail p f
@@ -116,12 +118,13 @@ module _ (detail : ℕ) (p : Prescale) (f : ℤ) where
     pub no-multiplier : p .multiplier ≡ 0 → Known (pos 0) ≡ prescaledOf detail p f
     no-multiplier e = nothing-to-multiply detail (p .multiplier) (f -ℤ pos (p .offset)) e ∙ order-used
 
-    pub far-offset : {r : Value} → r ≡ Refused (refusal 24 detail) → (p .multiplier ≡ 0 → ⊥) → natAbs f ≤ 6553600000 → 2 ^ 62 < p .offset → r ≡ prescaledOf detail p f
+    pub far-offset : {r : Value} → r ≡ Refused (refusal 24 detail) → (p .multiplier ≡ 0 → ⊥) → natAbs f ≤ highestFrequency → 2 ^ 62 < p .offset
+        → r ≡ prescaledOf detail p f
     far-offset e some b h =
         let apart = magnitude-difference-low f (pos (p .offset)) in
         far-difference detail (p .multiplier) (f -ℤ pos (p .offset)) some e (omega arith) ∙ order-used
 
-pub difference-fits : (f : ℤ) (offset : ℕ) → natAbs f ≤ 6553600000 → offset ≤ 2 ^ 62 → SFits w64 (f -ℤ pos offset)
+pub difference-fits : (f : ℤ) (offset : ℕ) → natAbs f ≤ highestFrequency → offset ≤ 2 ^ 62 → SFits w64 (f -ℤ pos offset)
 difference-fits f offset b h = fits-64 (omega (arith, magnitude-difference f (pos offset)))
 
 -- an X that is known is within its limit

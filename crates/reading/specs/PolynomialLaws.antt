@@ -138,9 +138,10 @@ module _ (row : List ℤ) (five : length row ≡ 5) where
   zeros-more i k h e f =
       let next : suc (i - 1) ≡ i = omega arith in
       let left : 5 - (i - 1) ≡ suc (5 - i) = omega (arith, k .within-row) in
+      let zero : getD row (i - 1) (pos 0) ≡ pos 0 = no-bits (getD row (i - 1) (pos 0)) (record { sfits = f }) e in
       record {
         within-row = omega (arith, k .within-row);
-        zeros = rw (drop-cons row (i - 1) (pos 0) (omega (arith, k .within-row)), next, k .zeros, no-bits (getD row (i - 1) (pos 0)) (record { sfits = f }) e, left);
+        zeros = rw (drop-cons row (i - 1) (pos 0) (omega (arith, k .within-row)), next, k .zeros, zero, left);
       }
 
   pub zeros-all : (i : ℕ) → Zeros row i → i ≤ 0 → row ≡ replicate 5 (pos 0)

@@ -13,7 +13,6 @@ use Rattle.refusals.specs.declared.Verdict.the-variants.{Accepted, Refused as N
 use Rattle.refusals.specs.Refusals.{refusal, ask}
 use Rattle.reading.specs.declared.value.Value.{Value}
 use Rattle.reading.specs.declared.value.Value.the-variants.{Known, Refused}
-use Rattle.reading.specs.declared.value.Both.{Both}
 use Rattle.reading.specs.declared.value.Both.the-variants.{Known as BothKnown, Refused as NotBoth}
 use Rattle.reading.specs.Value.{given, withValue, within, bothOf}
 

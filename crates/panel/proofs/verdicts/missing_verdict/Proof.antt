@@ -31,7 +31,8 @@ returns-2 c = search laws
 next-kind-present-requires-3 : tie.Need-next-kind-present-requires-3
 next-kind-present-requires-3 c κs =
     let first = c .before .before in
-    second-kind-there _ (first .before .before .before .pre) _ (first .before .next-kind-present .ensures) (first .if1 .left) _ (c .before .next-kind-present2 .ensures) (c .if2 .left)
+    let good = first .before .before .before .pre in
+    second-kind-there _ good _ (first .before .next-kind-present .ensures) (first .if1 .left) _ (c .before .next-kind-present2 .ensures) (c .if2 .left)
 
 refused-requires-3 : tie.Need-refused-requires-3
 refused-requires-3 c κs = search laws

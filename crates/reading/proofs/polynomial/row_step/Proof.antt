@@ -33,7 +33,8 @@ returns-2 c =
     let b = c .before .before .before .before .before .before in
     let g = c .before .before .coefficient .given in
     let row = rw (toZ-ofZ (b .fits .xt)) at (c .before .before .before .before .row-sum .ensures) in
-    (rw (toZ-ofZ (b .fits .xp), toZ-ofZ (b .fits .sum), read-back w64 (g .0 .0) (c .before .known-told .given .0 .1)) at (c .step .ensures)) ∙ value-known _ row (g .1)
+    let coefficient = read-back w64 (g .0 .0) (c .before .known-told .given .0 .1) in
+    (rw (toZ-ofZ (b .fits .xp), toZ-ofZ (b .fits .sum), coefficient) at (c .step .ensures)) ∙ value-known _ row (g .1)
 
 returns-3 : tie.Need-returns-3
 unfolding rowStep

@@ -42,8 +42,8 @@ returns c =
     let set = c .before .before .before .before .before .before .before .before .read-set .ensures in
     let g = c .before .before .before .xp .given in
     let x = rw (toZ-ofZ (b .fits .fp), set) at (c .before .before .before .before .before .prescaled .ensures) in
-    (rw (toZ-ofZ (b .fits .ft), read-back w64 (g .0 .0) (c .before .before .known-told .given .0 .1), set, c .before .read-grid .ensures) at (c .result-from-xp .ensures))
-    ∙ value-known _ x (g .1)
+    let xp = read-back w64 (g .0 .0) (c .before .before .known-told .given .0 .1) in
+    (rw (toZ-ofZ (b .fits .ft), xp, set, c .before .read-grid .ensures) at (c .result-from-xp .ensures)) ∙ value-known _ x (g .1)
 
 returns-2 : tie.Need-returns-2
 unfolding setResult

@@ -2,10 +2,11 @@
 use mathlib.Core.Path.{_≡_, ap, _∙_}
 use Prim.Native.Nat.{_^_}
 use borrow.Author.Needs.{needs}
-use lib.IntN.{_+ℤ_, _*ℤ_}
+use lib.IntN.{ℤ, _+ℤ_, _*ℤ_}
 use mir.Syntax.{w64}
-use mir.Val.{SFits, toZ, ofZ}
 use mir.Facts.{toZ-ofZ}
+use Rattle.limits.specs.Limits.{largestSum}
+use Rattle.laws.specs.SignedBits.{kept, read-as, Exact, exact}
 use Rattle.whole.specs.Rounded.{rounded}
 use Rattle.whole.specs.Wrapped.{wrapped}
 use Rattle.reading.specs.Value.{within}
@@ -13,26 +14,30 @@ use Rattle.reading.specs.PolynomialLaws.{step-product-fits, step-wrapped
 use Rattle.reading.proofs.polynomial.step.Statement.{statement}
 use Rattle.reading.proofs.polynomial.step.Tie as tie
 
-module _ (c : tie.Start) where
-  operands : toZ w64 (ofZ w64 (c .args .sum)) *ℤ toZ w64 (ofZ w64 (c .args .x)) ≡ c .args .sum *ℤ c .args .x
-  operands = rw (toZ-ofZ (c .fits .sum), toZ-ofZ (c .fits .x))
+module _ (s : tie.Start) where
+  product-exact : Exact w64 (kept w64 (s .args .sum) *ℤ kept w64 (s .args .x)) (s .args .sum *ℤ s .args .x)
+  product-exact =
+      exact w64 (rw (toZ-ofZ (s .fits .sum), toZ-ofZ (s .fits .x))) (step-product-fits (s .args .sum) (s .args .x) (s .pre .1) (s .pre .0))
 
-  room : SFits w64 (c .args .sum *ℤ c .args .x)
-  room = step-product-fits (c .args .sum) (c .args .x) (c .pre .1) (c .pre .0)
+  abbrev turn : ℤ
+  turn = rounded (s .args .sum *ℤ s .args .x) (2 ^ 24)
 
 module _ (c : tie.After-wrapped-sum) where
-  turn : toZ w64 (ofZ w64 (c .before .rounded-over-2-24 .result)) ≡ rounded (c .before .before .args .sum *ℤ c .before .before .args .x) (2 ^ 24)
-  turn =
-      toZ-ofZ (record { sfits = c .before .rounded-over-2-24 .ok })
-      ∙ (rw (operands (c .before .before), toZ-ofZ (room (c .before .before))) at (c .before .rounded-over-2-24 .ensures))
+  abbrev start : tie.Start
+  start = c .before .before
 
-  next : toZ w64 (ofZ w64 (c .wrapped-sum .result)) ≡ wrapped (c .before .before .args .coefficient +ℤ rounded (c .before .before .args .sum *ℤ c .before .before .args .x) (2 ^ 24))
+  turned : kept w64 (c .before .rounded-over-2-24 .result) ≡ turn start
+  turned =
+      let call = c .before .rounded-over-2-24 in
+      read-as w64 (call .result) _ (call .ok) (rw (product-exact start .back) at (call .ensures))
+
+  next : kept w64 (c .wrapped-sum .result) ≡ wrapped (start .args .coefficient +ℤ turn start)
   next =
-      toZ-ofZ (record { sfits = c .wrapped-sum .ok })
-      ∙ (rw (toZ-ofZ (c .before .before .fits .coefficient), turn) at (c .wrapped-sum .ensures))
+      let call = c .wrapped-sum in
+      read-as w64 (call .result) _ (call .ok) (rw (toZ-ofZ (start .fits .coefficient), turned) at (call .ensures))
 
 mul-rounded-over-2-24 : tie.Need-mul-rounded-over-2-24
-mul-rounded-over-2-24 c = rw (operands c) (room c)
+mul-rounded-over-2-24 c = product-exact c .fits
 
 rounded-over-2-24-requires : tie.Need-rounded-over-2-24-requires
 rounded-over-2-24-requires c κs = search needs
@@ -45,10 +50,10 @@ limited-requires c κs = search needs
 
 returns : tie.Need-returns
 returns c =
-    let b = c .before .before .before in
+    let s = c .before .before .before in
     c .limited .ensures
-    ∙ ap (within 500000000000 25 (b .args .kind)) (next (c .before))
-    ∙ step-wrapped (b .args .sum) (b .args .x) (b .pre .1) (b .pre .0) (b .args .kind) (b .args .coefficient) (b .fits .coefficient)
+    ∙ ap (within largestSum 25 (s .args .kind)) (next (c .before))
+    ∙ step-wrapped (s .args .sum) (s .args .x) (s .pre .1) (s .pre .0) (s .args .kind) (s .args .coefficient) (s .fits .coefficient)
 
 pub step-spec : {M : Type 1} → statement M
 step-spec =

@@ -23,7 +23,7 @@ EachOnce [] = Unit {0}
 EachOnce (s ∷ ss) = Not (HasSection (s .kind) ss) × EachOnce ss
 
 -- "Take an image that a panel accepts", and "further sections, of kinds it doesn't hold and that panel doesn't know"
-pub record Further (level : ℕ) (image : List ℕ) (further : List Section) : Type 0 where
+pub record FurtherSections (level : ℕ) (image : List ℕ) (further : List Section) : Type 0 where
   pub accepted : NoneGiven (verdictTable level image)
   pub not-held : (kind : ℕ) → HasSection kind further → Not (HasKind image kind)
   pub not-known : (kind : ℕ) → HasSection kind further → Not (Knows level kind)

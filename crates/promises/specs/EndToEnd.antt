@@ -33,7 +33,7 @@ use Rattle.panel.specs.Load.{loadText}
 use Rattle.agreement.specs.WriterAgrees.{written-exactly}
 use Rattle.agreement.specs.OnPaper.{onPaper}
 use Rattle.agreement.specs.ManualAgrees.{shows-by-manual}
-use Rattle.promises.specs.Further.{Among, EachOnce}
+use Rattle.promises.specs.LaidOutAnew.{Among, EachOnce}
 use Rattle.promises.specs.AnewBuilt.{among-found}
 
 -- The buffers of the three calls are x before and x′ after; n and m are the lengths that builder and writer answer.
@@ -74,22 +74,22 @@ module _ (level : ℕ) (ss : List Section) (once : EachOnce ss) (image image′ 
   load-is = rw (read-is, accepted)
 
   -- The panel loads it,
-  pub whole-loads : answer ≡ Length n
-  whole-loads = rw load-is at (given .answers) ∙ ap Length long
+  pub sections-loads : answer ≡ Length n
+  sections-loads = rw load-is at (given .answers) ∙ ap Length long
 
   -- its buffer holds that image, and zeros after it,
-  pub whole-holds : loaded′ ≡ made ++ replicate (length loaded - n) 0
-  whole-holds = rw (load-is, long) at (given .holds)
+  pub sections-holds : loaded′ ≡ made ++ replicate (length loaded - n) 0
+  sections-holds = rw (load-is, long) at (given .holds)
 
   same : take n loaded′ ≡ made
-  same = rw whole-holds (take-at made (replicate (length loaded - n) 0) n long)
+  same = rw sections-holds (take-at made (replicate (length loaded - n) 0) n long)
 
   -- every section is found in it as it was given,
-  pub whole-finds : (kind : ℕ) (body : List ℕ) → Among kind body ss → found (take n loaded′) kind ≡ some body
-  whole-finds kind body among =
+  pub sections-finds : (kind : ℕ) (body : List ℕ) → Among kind body ss → found (take n loaded′) kind ≡ some body
+  sections-finds kind body among =
       rw same (built-found (length image) (linesOf ss) (bodiesOf ss) made build-is kind ∙ rw (sections-again ss) (among-found kind body ss once among))
 
   -- and for all counts what is shown is the manual's polynomial of the coefficients in it.
-  pub whole-reads : (counts : Counts) (reading : Reading) → readingOf level (take n loaded′) counts ≡ Shown reading
+  pub sections-reads : (counts : Counts) (reading : Reading) → readingOf level (take n loaded′) counts ≡ Shown reading
       → ShowsByManual made (onPaper counts) (reading .pressure) (reading .temperature) (reading .unit) (reading .mark)
-  whole-reads counts reading e = shows-by-manual level made counts reading (rw same at e)
+  sections-reads counts reading e = shows-by-manual level made counts reading (rw same at e)
