@@ -28,7 +28,7 @@ use Rattle.reading.specs.declared.Answer.{Answer}
 use Rattle.reading.specs.declared.Answer.the-variants.{Shown, Refused}
 use Rattle.reading.specs.declared.value.Value.{Value}
 use Rattle.reading.specs.declared.value.Value.the-variants.{Known, Refused as NotKnown}
-use Rattle.reading.specs.Gauge.{calibratedSet}
+use Rattle.reading.specs.Gauge.{setOf}
 use Rattle.reading.specs.Frequency.{frequencyOf}
 use Rattle.reading.specs.Polynomial.{setResult}
 use Rattle.reading.specs.Measured.{andShow, markOf, trimmedBy, shownBy, measuredOf}
@@ -135,7 +135,7 @@ module _ (image : List ℕ) (counts : Counts) (right : Readable image) where
 
     set-in-image : (kind first : ℕ) → HasKind image kind → Not (SetWrong (body kind))
         → ValueGives (setTable image paper kind first) (λ (z : ℤ). Result (body kind) fp ft z)
-        (setResult kind first (calibratedSet (body kind)) fp ft)
+        (setResult kind first (setOf (body kind)) fp ft)
     set-in-image kind first h ok = set-gives (body kind) ok fp ft kind first (InSet image paper kind) (into kind h) (out kind h)
 
   -- ---- the whole way
@@ -149,10 +149,10 @@ module _ (image : List ℕ) (counts : Counts) (right : Readable image) where
       (Counted 2 (paper .temperatureNS) (paper .temperatureNR)) (ShowsReading image counts)
       (frequencyOf 2 (paper .temperatureNS) (paper .temperatureNR)) _ (frequency-gives 2 (paper .temperatureNS) (paper .temperatureNR))
       (λ ft ft-is. answer-then (setTable image paper 2 1) _ (λ (z : ℤ). Result (body 2) fp ft z) (ShowsReading image counts)
-      (setResult 2 1 (calibratedSet (body 2)) fp ft) _
+      (setResult 2 1 (setOf (body 2)) fp ft) _
       (set-in-image fp ft fp-is ft-is 2 1 (right .has-pressure-set) (right .pressure-set-right (body 2) (there 2 (right .has-pressure-set))))
       (λ pressure pressure-is. answer-then (setTable image paper 3 3) [] (λ (z : ℤ). Result (body 3) fp ft z) (ShowsReading image counts)
-      (setResult 3 3 (calibratedSet (body 3)) fp ft) _
+      (setResult 3 3 (setOf (body 3)) fp ft) _
       (set-in-image fp ft fp-is ft-is 3 3 (right .has-temperature-set) (right .temperature-set-right (body 3) (there 3 (right .has-temperature-set))))
       (λ temperature temperature-is. shown-gives fp ft fp-is ft-is pressure temperature pressure-is temperature-is))))
 

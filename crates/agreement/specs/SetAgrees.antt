@@ -17,12 +17,12 @@ use Rattle.paper.specs.Reading.{IsXP, IsXT, Coefficient, RowFrom, RowsFrom, Run
 use Rattle.paper.specs.ReadingTable.{XPBeyond, XTBeyond, SumBeyond, ResultBeyond}
 use Rattle.laws.specs.Cases.{split, decide}
 use Rattle.numbers.specs.Fields.{numberAt}
-use Rattle.sets.specs.Set.{setOf, gridPlace, rowFrom, rowsFrom, gridOf}
+use Rattle.sets.specs.Set.{prescalesOf, gridPlace, rowFrom, rowsFrom, gridOf}
 use Rattle.reading.specs.declared.value.Value.{Value}
 use Rattle.reading.specs.declared.value.Value.the-variants.{Known, Refused}
 use Rattle.reading.specs.Value.{withValue, within}
 use Rattle.reading.specs.Frequency.{prescaledOf}
-use Rattle.reading.specs.Gauge.{calibratedSet}
+use Rattle.reading.specs.Gauge.{setOf}
 use Rattle.reading.specs.Polynomial.{nestedSum, stepOf, rowSum, rowStep, gridSum, setResult}
 use Rattle.agreement.specs.FieldsAgree.{number-same, signed-same}
 use Rattle.agreement.specs.NearestLaws.{nearest-once}
@@ -226,17 +226,17 @@ module _ (body : List ℕ) (right : Not (SetWrong body)) where
       fromXT xp xt = withValue (gridSum kind xp xt (gridOf body)) (λ sum. within (2 ^ 31) 26 kind sum)
 
       abbrev fromXP : (xp : ℤ) → Value
-      fromXP xp = withValue (prescaledOf (first + 1) (setOf body .temperature) ft) (λ xt. fromXT xp xt)
+      fromXP xp = withValue (prescaledOf (first + 1) (prescalesOf body .temperature) ft) (λ xt. fromXT xp xt)
 
-      pub set-gives : ValueGives (row24P ∷ row24T ∷ row25 ∷ row26 ∷ []) IsResult (setResult kind first (calibratedSet body) fp ft)
-      unfolding setOf setResult
+      pub set-gives : ValueGives (row24P ∷ row24T ∷ row25 ∷ row26 ∷ []) IsResult (setResult kind first (setOf body) fp ft)
+      unfolding prescalesOf setResult
       set-gives =
-          value-then (row24P ∷ []) (row24T ∷ row25 ∷ row26 ∷ []) (λ (x : ℤ). IsXP body fp x) IsResult (prescaledOf first (setOf body .pressure) fp)
+          value-then (row24P ∷ []) (row24T ∷ row25 ∷ row26 ∷ []) (λ (x : ℤ). IsXP body fp x) IsResult (prescaledOf first (prescalesOf body .pressure) fp)
           (λ xp. fromXP xp)
           (rw number-same (prescaled-gives first (numberAt 1 body 2) (numberAt 4 body 4) (numberAt 8 body 8) fp
           (rw number-same at (into XPBeyond)) (rw number-same at (out XPBeyond))))
           (λ xp xp-is. value-then (row24T ∷ []) (row25 ∷ row26 ∷ []) (λ (x : ℤ). IsXT body ft x) IsResult
-          (prescaledOf (first + 1) (setOf body .temperature) ft) (λ xt. fromXT xp xt)
+          (prescaledOf (first + 1) (prescalesOf body .temperature) ft) (λ xt. fromXT xp xt)
           (rw number-same (prescaled-gives (first + 1) (numberAt 1 body 3) (numberAt 4 body 16) (numberAt 8 body 20) ft
           (rw number-same at (into XTBeyond)) (rw number-same at (out XTBeyond))))
           (λ xt xt-is. rows-give xp xt xp-is xt-is))

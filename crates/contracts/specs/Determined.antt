@@ -179,8 +179,8 @@ pub build-determined : Determines builder.build.ended build.Learnt
 build-determined _ _ _ _ _ _ p q = next (next (first (fills p q)))
 
 -- sets
-pub read-set-determined : Determines sets.read_set.ended sets.read_set.Reads.Learnt
-read-set-determined _ _ _ _ _ _ = answers
+pub read-prescales-determined : Determines sets.read_prescales.ended sets.read_prescales.Reads.Learnt
+read-prescales-determined _ _ _ _ _ _ = answers
 
 pub set-verdict-determined : Determines sets.set_verdict.ended sets.set_verdict.Reads.Learnt
 set-verdict-determined _ _ _ _ _ _ = answers

@@ -177,8 +177,8 @@ pub build-free : AsksNothing builder.build.ended build.requires
 build-free _ _ _ = refl
 
 -- sets
-pub read-set-free : AsksNothing sets.read_set.ended sets.read_set.Reads.requires
-read-set-free _ _ _ = refl
+pub read-prescales-free : AsksNothing sets.read_prescales.ended sets.read_prescales.Reads.requires
+read-prescales-free _ _ _ = refl
 
 pub set-verdict-free : AsksNothing sets.set_verdict.ended sets.set_verdict.Reads.requires
 set-verdict-free _ _ _ = refl

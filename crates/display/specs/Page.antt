@@ -13,8 +13,8 @@ use Rattle.hextext.specs.Text.{readText}
 use Rattle.image.specs.Find.{found, orElse}
 use Rattle.bodies.specs.declared.Identity.{Identity}
 use Rattle.bodies.specs.Identity.{identityOf}
-use Rattle.sets.specs.declared.Set.{Set}
-use Rattle.sets.specs.Set.{setOf}
+use Rattle.sets.specs.declared.Prescales.{Prescales}
+use Rattle.sets.specs.Set.{prescalesOf}
 use Rattle.panel.specs.Verdict.{verdictOf}
 use Rattle.display.specs.Words.{field, twoDigits}
 
@@ -28,17 +28,17 @@ abbrev pub identityWords : Identity → List ℕ
 identityWords i = field (characters " serial ") (i .serial) ++ field (characters " date ") (i .year) ++ twoDigits (i .month) ++ twoDigits (i .day)
 
 -- the orders NP and NT of a set
-abbrev pub orderWords : List ℕ → Set → List ℕ
+abbrev pub orderWords : List ℕ → Prescales → List ℕ
 orderWords words set = field words (set .pressure .order) ++ field (characters " ") (set .temperature .order)
 
-abbrev pub setsWords : (pressure temperature : Set) → List ℕ
+abbrev pub setsWords : (pressure temperature : Prescales) → List ℕ
 setsWords pressure temperature = orderWords (characters " pressure ") pressure ++ orderWords (characters " temperature ") temperature ++ characters "\n"
 
 abbrev bodyFound : (image : List ℕ) (kind : ℕ) → List ℕ
 bodyFound image kind = orElse [] (found image kind)
 
 abbrev pub acceptedWords : (image : List ℕ) → List ℕ
-acceptedWords image = identityWords (identityOf (bodyFound image 1)) ++ setsWords (setOf (bodyFound image 2)) (setOf (bodyFound image 3))
+acceptedWords image = identityWords (identityOf (bodyFound image 1)) ++ setsWords (prescalesOf (bodyFound image 2)) (prescalesOf (bodyFound image 3))
 
 -- ---- the page
 

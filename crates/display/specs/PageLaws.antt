@@ -22,8 +22,8 @@ use Rattle.image.specs.Layout.{layoutVerdict}
 use Rattle.image.specs.Find.{Found}
 use Rattle.bodies.specs.declared.Identity.{Identity}
 use Rattle.bodies.specs.Identity.{identityOf}
-use Rattle.sets.specs.declared.Set.{Set}
-use Rattle.sets.specs.Set.{setOf}
+use Rattle.sets.specs.declared.Prescales.{Prescales}
+use Rattle.sets.specs.Set.{prescalesOf}
 use Rattle.panel.specs.Verdict.{verdictOf}
 use Rattle.panel.specs.GoodLayoutLaws.{accepted-first-kinds}
 use Rattle.display.specs.Words.{field, twoDigits}
@@ -37,13 +37,13 @@ pub verdict-laid : (level : ℕ) (image : List ℕ) (verdict : Verdict) → verd
 verdict-laid level image verdict e a = accepted-first-kinds level image verdict e a .good
 
 module _ (at m end : ℕ) (d d₁ d₂ : List ℕ) where
-  pub accepted-printed : (image first second third : RefT (List ℕ)) (identity : Identity) (p t : Set)
-      → Found image first 1 → identity ≡ identityOf (now first) → Found image second 2 → p ≡ setOf (now second) → Found image third 3 → t ≡ setOf (now third)
+  pub accepted-printed : (image first second third : RefT (List ℕ)) (identity : Identity) (p t : Prescales)
+      → Found image first 1 → identity ≡ identityOf (now first) → Found image second 2 → p ≡ prescalesOf (now second) → Found image third 3 → t ≡ prescalesOf (now third)
       → Printed at (identityWords identity) d m d₁ → Printed m (setsWords p t) d₁ end d₂ → Printed at (acceptedWords (now image)) d end d₂
   accepted-printed image first second third identity p t f i g j h k w v =
       let one = i ∙ ap identityOf (f .holds) in
-      let two = j ∙ ap setOf (g .holds) in
-      let three = k ∙ ap setOf (h .holds) in
+      let two = j ∙ ap prescalesOf (g .holds) in
+      let three = k ∙ ap prescalesOf (h .holds) in
       rw (← one, ← two, ← three) (printed-then at m end (identityWords identity) (setsWords p t) d d₁ d₂ w v)
 
   module _ (level : ℕ) (image : List ℕ) (verdict : Verdict) (e : verdict ≡ verdictOf level image) (w : Printed at (field (characters "level ") level) d m d₁) where

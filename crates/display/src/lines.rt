@@ -13,7 +13,7 @@ use bodies::Identity;
 use refusals::Filled;
 use refusals::Refusal;
 use refusals::Verdict;
-use sets::Set;
+use sets::Prescales;
 
 fn put_refused(page: &mut [u8], at: usize, refusal: Refusal) -> usize
     requires { ⌜ at + 51 ≤ length (now page) ⌝ }
@@ -36,7 +36,7 @@ fn put_identity(page: &mut [u8], at: usize, identity: Identity) -> usize
     put_two_digits(page, month, identity.day)
 }
 
-fn put_orders(page: &mut [u8], at: usize, words: &[u8], set: Set) -> usize
+fn put_orders(page: &mut [u8], at: usize, words: &[u8], set: Prescales) -> usize
     requires { ⌜ at + (length (now words) + 41) ≤ length (now page) ⌝ }
     ensures { λ r. ⌜ Printed at (orderWords (now (words .entry)) set) (now (page .entry)) r (now (page .exit)) ⌝ }
     ensures { λ r. ⌜ r ≤ at + (length (now (words .entry)) + 41) ⌝ }
@@ -47,7 +47,12 @@ fn put_orders(page: &mut [u8], at: usize, words: &[u8], set: Set) -> usize
     put_field(page, pressure, b" ", by_temperature.order as u64)
 }
 
-fn put_sets(page: &mut [u8], at: usize, pressure_set: Set, temperature_set: Set) -> usize
+fn put_sets(
+    page: &mut [u8],
+    at: usize,
+    pressure_set: Prescales,
+    temperature_set: Prescales,
+) -> usize
     requires { ⌜ at + 106 ≤ length (now page) ⌝ }
     ensures { λ r. ⌜ Printed at (setsWords «pressure_set» «temperature_set») (now (page .entry)) r (now (page .exit)) ⌝ }
     ensures { λ r. ⌜ r ≤ at + 106 ⌝ }
@@ -72,8 +77,8 @@ fn put_accepted(page: &mut [u8], at: usize, image: &[u8]) -> usize
     ensures { λ r. ⌜ r ≤ at + 204 ⌝ }
 {
     let identity = bodies::read_identity(body_of(image, 1));
-    let pressure_set = sets::read_set(body_of(image, 2));
-    let temperature_set = sets::read_set(body_of(image, 3));
+    let pressure_set = sets::read_prescales(body_of(image, 2));
+    let temperature_set = sets::read_prescales(body_of(image, 3));
     let end = put_identity(page, at, identity);
     put_sets(page, end, pressure_set, temperature_set)
 }

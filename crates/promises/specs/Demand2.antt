@@ -39,7 +39,7 @@ use Rattle.image.specs.Layout.{layoutVerdict}
 use Rattle.image.specs.Find.{found, foundOffset}
 use Rattle.builder.specs.Build.{buildImage}
 use Rattle.builder.specs.Lines.{linesGiven}
-use Rattle.sets.specs.Set.{setOf}
+use Rattle.sets.specs.Set.{prescalesOf}
 use Rattle.bodies.specs.Identity.{identityOf}
 use Rattle.bodies.specs.Trim.{trimOf}
 use Rattle.reading.specs.declared.Counts.{Counts}
@@ -195,12 +195,12 @@ pub trim-read : EveryCall bodies.read_trim.ended bodies.read_trim.Reads.Learnt
 unfolding trimOf
 trim-read call r b learnt = rw (learnt, number-same, signed-same) (refl, refl, refl)
 
-pub set-read : EveryCall sets.read_set.ended sets.read_set.Reads.Learnt
+pub set-read : EveryCall sets.read_prescales.ended sets.read_prescales.Reads.Learnt
     (λ call r b.
     let body = now (call .arguments .0) in
     (r .pressure .order ≡ number 1 body 2) × (r .pressure .multiplier ≡ number 4 body 4) × (r .pressure .offset ≡ number 8 body 8)
     × (r .temperature .order ≡ number 1 body 3) × (r .temperature .multiplier ≡ number 4 body 16) × (r .temperature .offset ≡ number 8 body 20))
-unfolding setOf
+unfolding prescalesOf
 set-read call r b learnt = rw (learnt, number-same) (refl, refl, refl, refl, refl, refl)
 
 -- row r is A0, A1, .. or B0, B1, ..; absent places are 0

@@ -20,11 +20,11 @@ use Rattle.image.specs.Examples.{contents-overrun}
 use Rattle.bodies.specs.Identity.{identityVerdict}
 use Rattle.bodies.specs.Trim.{trimOf, trimFields, trimVerdict}
 use Rattle.bodies.specs.Examples.{leapDay, leap-day-2004, leap-day-2003}
-use Rattle.sets.specs.Set.{setOf, setFields, setVerdict, rowFrom, rowsFrom}
+use Rattle.sets.specs.Set.{prescalesOf, setFields, setVerdict, rowFrom, rowsFrom}
 use Rattle.reading.specs.declared.value.Value.the-variants.{Known, Refused}
 use Rattle.reading.specs.Value.{within}
 use Rattle.reading.specs.Frequency.{frequencyOf, scaledOf, prescaledOf}
-use Rattle.reading.specs.Gauge.{calibratedSet}
+use Rattle.reading.specs.Gauge.{setOf}
 use Rattle.reading.specs.Polynomial.{nestedSum, stepOf, rowSum, rowStep, setResult}
 use Rattle.reading.specs.Measured.{trimmedBy}
 use Rattle.reading.specs.Examples.{frequency-whole, frequency-half, frequency-lowest, frequency-highest, frequency-too-low, frequency-too-high, frequency-of-77}
@@ -96,14 +96,14 @@ starred =
     ∷ (rounded (pos (2 ^ 23)) (2 ^ 24) says pos 1)
     ∷ (rounded (negℤ (pos (2 ^ 23))) (2 ^ 24) says pos 0)
     -- F - F0 4,294,967,296 + 127 with M 2^24, and 128 more instead of 127
-    ∷ (prescaledOf 1 (setOf starredSet .pressure) (pos (1000000000 + 4294967296 + 127)) says Known (pos 16777216))
-    ∷ (prescaledOf 1 (setOf starredSet .pressure) (pos (1000000000 + 4294967296 + 128)) says Refused (refusal 24 1))
+    ∷ (prescaledOf 1 (prescalesOf starredSet .pressure) (pos (1000000000 + 4294967296 + 127)) says Known (pos 16777216))
+    ∷ (prescaledOf 1 (prescalesOf starredSet .pressure) (pos (1000000000 + 4294967296 + 128)) says Refused (refusal 24 1))
     -- XP 2^23 and XT -2^23, both rows, the result
-    ∷ (prescaledOf 1 (setOf starredSet .pressure) fp says Known (pos (2 ^ 23)))
-    ∷ (prescaledOf 2 (setOf starredSet .temperature) ft says Known xt)
+    ∷ (prescaledOf 1 (prescalesOf starredSet .pressure) fp says Known (pos (2 ^ 23)))
+    ∷ (prescaledOf 2 (prescalesOf starredSet .temperature) ft says Known xt)
     ∷ (rowSum 2 xt (rowFrom starredSet 0 5 0) says Known (pos 6520832))
     ∷ (rowSum 2 xt (rowFrom starredSet 1 5 0) says Known (pos 131071))
-    ∷ (setResult 2 1 (calibratedSet starredSet) fp ft says Known (pos 6586368))
+    ∷ (setResult 2 1 (setOf starredSet) fp ft says Known (pos 6586368))
     -- 65,536,000 (1,000 psi) with span 18,507,980, zero 0
     ∷ (trimmedBy (trimOf starredTrim) (pos 65536000) says pos 4518550)
     -- the bytes 51 01: as a text, its length, as an image; and with AD
@@ -118,7 +118,7 @@ starred =
 
 -- Every one of them holds.
 pub starred-hold : Hold starred
-unfolding littleEndian numberAt twosComplement rounded setOf rowFrom rowsFrom trimOf
+unfolding littleEndian numberAt twosComplement rounded prescalesOf rowFrom rowsFrom trimOf
     within scaledOf prescaledOf nestedSum stepOf rowStep setResult trimmedBy
 starred-hold =
     frequency-whole and frequency-half

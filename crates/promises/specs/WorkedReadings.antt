@@ -15,7 +15,7 @@ use Rattle.image.specs.Layout.{sumsVerdict, layoutVerdict}
 use Rattle.image.specs.Sections.{sectionsFrom, sections}
 use Rattle.image.specs.Find.{bodyOf}
 use Rattle.bodies.specs.Identity.{identityOf, daysIn, identityFields}
-use Rattle.sets.specs.Set.{setOf, setFields, rowFrom, rowsFrom, gridOf}
+use Rattle.sets.specs.Set.{prescalesOf, setFields, rowFrom, rowsFrom, gridOf}
 use Rattle.bodies.specs.Trim.{trimOf, trimFields}
 use Rattle.bodies.specs.Note.{noteFields}
 use Rattle.reading.specs.declared.Counts.{Counts}
@@ -34,7 +34,7 @@ use Rattle.paper.specs.WorkedImage.{identityBytes, pressureBytes, temperatureBy
 workedOut : (level : ℕ) → (image : List ℕ) → Counts → Answer
 unfolding total littleEndian numberAt twosComplement rounded fieldsVerdict fieldsFrom
     startVerdict countVerdict linesVerdict contentsVerdict sumsVerdict layoutVerdict sectionsFrom sections bodyOf
-    daysIn identityOf identityFields setOf setFields rowFrom rowsFrom trimOf trimFields noteFields
+    daysIn identityOf identityFields prescalesOf setFields rowFrom rowsFrom trimOf trimFields noteFields
     within hertz frequencyOf scaledOf prescaledOf nestedSum stepOf rowStep setResult outside markOf trimmedBy shownBy measuredOf
     knows unknownVerdict missingVerdict kindVerdict kindsVerdict sectionsVerdict verdictOf sectionsReading readingOf
 workedOut level image counts = readingOf level image counts
@@ -48,7 +48,7 @@ unfolding workedOut
 identity-says = refl
 
 pub pressure-set-says :
-    setOf pressureBytes
+    prescalesOf pressureBytes
     ≡ record {
       pressure = record { order = 2; multiplier = 82828532; offset = 2169253945 };
       temperature = record { order = 1; multiplier = 89478488; offset = 4607185121 };
@@ -69,7 +69,7 @@ unfolding workedOut
 pressure-grid-says = refl
 
 pub temperature-set-says :
-    setOf temperatureBytes
+    prescalesOf temperatureBytes
     ≡ record {
       pressure = record { order = 1; multiplier = 76770112; offset = 3191600777 };
       temperature = record { order = 2; multiplier = 78260032; offset = 4338745331 };

@@ -11,7 +11,7 @@ use Rattle.reading.specs.declared.Answer.the-variants.{Shown}
 use Rattle.reading.specs.declared.Trimming.the-variants.{By}
 use Rattle.reading.specs.declared.value.Value.the-variants.{Known, Refused}
 use Rattle.reading.specs.Value.{within}
-use Rattle.reading.specs.Gauge.{CalibratedSet, Gauge}
+use Rattle.reading.specs.Gauge.{Set, Gauge}
 use Rattle.reading.specs.Frequency.{hertz, frequencyOf, prescaledOf}
 use Rattle.reading.specs.Polynomial.{nestedSum, stepOf, rowStep, setResult}
 use Rattle.reading.specs.Measured.{outside, markOf, trimmedBy, shownBy, measuredOf}
@@ -57,7 +57,7 @@ abbrev limits : Identity
 limits = record { serial = 7; year = 2003; month = 9; day = 8; tmin = pos 0; tmax = pos 100; pmin = pos 0; pmax = pos 100 }
 
 -- orders 0 and 0: the result is A0
-abbrev constantSet : ℤ → CalibratedSet
+abbrev constantSet : ℤ → Set
 constantSet a0 =
     record {
       prescales = record {

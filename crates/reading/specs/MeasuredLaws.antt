@@ -25,7 +25,7 @@ use Rattle.reading.specs.Value.{withValue, bothOf}
 use Rattle.reading.specs.ValueLaws.{within-says, both-known}
 use Rattle.reading.specs.Frequency.{frequencyOf, prescaledOf}
 use Rattle.reading.specs.FrequencyLaws.{frequency-bound}
-use Rattle.reading.specs.Gauge.{CalibratedSet, Gauge}
+use Rattle.reading.specs.Gauge.{Set, Gauge}
 use Rattle.reading.specs.Polynomial.{gridSum, setResult}
 use Rattle.reading.specs.Measured.{outside, markOf, shownBy, andShow, measuredOf}
 use Rattle.reading.specs.MeasuredCuts.{frequenciesOf, resultsOf}
@@ -37,7 +37,7 @@ with-bound : (v : Value) (next : ℤ → Value) (z : ℤ) (most : ℕ) → ((y :
 with-bound (Known y) next z most h e = h y e
 with-bound (Refused r) next z most h e = let n : _≡_ {A = ℕ} 0 1 = cc in absurd (omega arith)
 
-pub set-bound : (kind first : ℕ) (set : CalibratedSet) (fp ft z : ℤ) → setResult kind first set fp ft ≡ Known z → natAbs z ≤ largestResult
+pub set-bound : (kind first : ℕ) (set : Set) (fp ft z : ℤ) → setResult kind first set fp ft ≡ Known z → natAbs z ≤ largestResult
 unfolding setResult
 set-bound kind first set fp ft z e =
     with-bound (prescaledOf first (set .prescales .pressure) fp) _ z largestResult

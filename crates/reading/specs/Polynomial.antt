@@ -8,7 +8,7 @@ use Rattle.reading.specs.declared.value.Value.{Value}
 use Rattle.reading.specs.declared.value.Value.the-variants.{Known}
 use Rattle.reading.specs.Value.{withValue, within}
 use Rattle.reading.specs.Frequency.{prescaledOf}
-use Rattle.reading.specs.Gauge.{CalibratedSet}
+use Rattle.reading.specs.Gauge.{Set}
 
 -- a nested sum, from the last term down to the first; the sum of none is 0, so that the last term's step gives the term itself
 unfoldable pub nestedSum : {Term : Type 0} → (step : Term → (sum : ℤ) → Value) → List Term → Value
@@ -30,7 +30,7 @@ abbrev pub gridSum : (kind : ℕ) → (xp xt : ℤ) → List (List ℤ) → Valu
 gridSum kind xp xt grid = nestedSum (rowStep kind xp xt) grid
 
 -- XP and XT by the set's own prescales, the sum of the grid, its limit: 26. `first` is the detail of XP, and XT has the next
-unfoldable pub setResult : (kind first : ℕ) → CalibratedSet → (fp ft : ℤ) → Value
+unfoldable pub setResult : (kind first : ℕ) → Set → (fp ft : ℤ) → Value
 setResult kind first set fp ft =
     withValue (prescaledOf first (set .prescales .pressure) fp)
     (λ xp. withValue (prescaledOf (first + 1) (set .prescales .temperature) ft)

@@ -14,7 +14,7 @@ ghost use mathlib.Core.Path.{_≡_};
 ghost use Prim.Native.Nat.{_≤_};
 ghost use lib.IntN.{natAbs};
 ghost use Rattle.limits.specs.Limits.{highestFrequency};
-ghost use Rattle.reading.specs.Gauge.{calibratedSet, gaugeOf};
+ghost use Rattle.reading.specs.Gauge.{setOf, gaugeOf};
 ghost use Rattle.reading.specs.Measured.{measuredOf};
 ghost use Rattle.reading.specs.MeasuredCuts.{frequenciesOf, resultsOf};
 
@@ -33,7 +33,7 @@ fn frequencies(counts: Counts) -> Both
 // Refusals 24 to 26, of the pressure set first.
 fn results(fp: i64, ft: i64, pressure_set: &[u8], temperature_set: &[u8]) -> Both
     requires { ⌜ (natAbs fp ≤ highestFrequency) × (natAbs ft ≤ highestFrequency) ⌝ }
-    ensures { λ r. ⌜ r ≡ resultsOf (calibratedSet (now («pressure_set» .entry))) (calibratedSet (now («temperature_set» .entry))) fp ft ⌝ }
+    ensures { λ r. ⌜ r ≡ resultsOf (setOf (now («pressure_set» .entry))) (setOf (now («temperature_set» .entry))) fp ft ⌝ }
 {
     match set_result(2, 1, pressure_set, fp, ft) {
         Value::Known(pressure) => beside(pressure, set_result(3, 3, temperature_set, fp, ft)),

@@ -9,7 +9,7 @@ ghost use Prim.Native.Nat.{_≤_, _^_};
 ghost use lib.IntN.{pos, natAbs};
 ghost use lib.ListN.{replicate};
 ghost use Rattle.limits.specs.Limits.{highestFrequency, largestX, largestSum};
-ghost use Rattle.reading.specs.Gauge.{calibratedSet};
+ghost use Rattle.reading.specs.Gauge.{setOf};
 ghost use Rattle.reading.specs.Polynomial.{stepOf, rowSum, rowStep, gridSum, setResult};
 ghost use Rattle.reading.specs.PolynomialCuts.{gridResult, resultFromXp};
 
@@ -125,9 +125,9 @@ fn result_from_xp(
 // The result of the set that a body holds, from its own prescale of both frequencies.
 pub fn set_result(kind: u64, first: u64, body: &[u8], fp: i64, ft: i64) -> Value
     requires { ⌜ (natAbs fp ≤ highestFrequency) × (natAbs ft ≤ highestFrequency) × (first ≤ 3) ⌝ }
-    ensures { λ r. ⌜ r ≡ setResult kind first (calibratedSet (now (body .entry))) fp ft ⌝ }
+    ensures { λ r. ⌜ r ≡ setResult kind first (setOf (now (body .entry))) fp ft ⌝ }
 {
-    let set = sets::read_set(body);
+    let set = sets::read_prescales(body);
     let by_pressure = set.pressure;
     let by_temperature = set.temperature;
     match prescaled(first, by_pressure, fp) {

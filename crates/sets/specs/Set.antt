@@ -8,7 +8,7 @@ use lib.ListN.{length}
 use Rattle.numbers.specs.Fields.{numberAt, signedAt}
 use Rattle.refusals.specs.declared.Verdict.{Verdict}
 use Rattle.refusals.specs.FieldsVerdict.{Field, field, fieldsVerdict, fieldsFrom}
-use Rattle.sets.specs.declared.Set.{Set}
+use Rattle.sets.specs.declared.Prescales.{Prescales}
 
 -- the orders NP and NT
 abbrev pub pressureOrder : List ℕ → ℕ
@@ -17,9 +17,9 @@ pressureOrder body = numberAt 1 body 2
 abbrev pub temperatureOrder : List ℕ → ℕ
 temperatureOrder body = numberAt 1 body 3
 
--- MP, FP0, MT, FT0
-unfoldable pub setOf : List ℕ → Set
-setOf body =
+-- NP, MP, FP0 and NT, MT, FT0
+unfoldable pub prescalesOf : List ℕ → Prescales
+prescalesOf body =
     record {
       pressure = record { order = pressureOrder body; multiplier = numberAt 4 body 4; offset = numberAt 8 body 8 };
       temperature = record { order = temperatureOrder body; multiplier = numberAt 4 body 16; offset = numberAt 8 body 20 };

@@ -15,9 +15,9 @@ use Rattle.refusals.specs.declared.Verdict.{Verdict}
 use Rattle.refusals.specs.FieldsVerdict.{fieldsVerdict}
 use Rattle.refusals.specs.FieldsVerdictLaws.{TestResult, IsVerdict}
 use Rattle.refusals.specs.TestsLaws.{equal, unequal}
-use Rattle.sets.specs.declared.Set.{Set}
+use Rattle.sets.specs.declared.Prescales.{Prescales}
 use Rattle.sets.specs.Set.{
-  setOf,
+  prescalesOf,
   pressureOrder,
   temperatureOrder,
   coefficientCount,
@@ -31,10 +31,10 @@ use Rattle.sets.specs.Preconditions.{OrdersRead}
 pub set-read : (body : List ℕ) {np mp fp nt mt ft : ℕ}
     → np ≡ pressureOrder body → mp ≡ numberAt 4 body 4 → fp ≡ numberAt 8 body 8
     → nt ≡ temperatureOrder body → mt ≡ numberAt 4 body 16 → ft ≡ numberAt 8 body 20
-    → _≡_ {A = Set}
+    → _≡_ {A = Prescales}
     (record { pressure = record { order = np; multiplier = mp; offset = fp }; temperature = record { order = nt; multiplier = mt; offset = ft } })
-    (setOf body)
-unfolding setOf
+    (prescalesOf body)
+unfolding prescalesOf
 set-read body a b c d e f = rw (a, b, c, d, e, f)
 
 -- ---- prescales, held to limits that are 0 where the order is 0

@@ -5,7 +5,7 @@ mod grids;
 mod sets;
 
 pub use grids::read_grid;
-pub use sets::read_set;
+pub use sets::read_prescales;
 pub use sets::set_verdict;
 
 // How a set prescales one channel's frequency.
@@ -15,8 +15,8 @@ pub struct Prescale {
     pub offset: u64,
 }
 
-// Kinds 2 and 3, but for the coefficients: the prescales of both channels.
-pub struct Set {
+// How a set prescales both frequencies: all that it says but its coefficients.
+pub struct Prescales {
     pub pressure: Prescale,
     pub temperature: Prescale,
 }

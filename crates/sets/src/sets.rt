@@ -1,6 +1,6 @@
-// A set but for its grid: what it says, and its fields judged in layout order.
+// A set's prescales, and its fields judged in layout order.
 use crate::Prescale;
-use crate::Set;
+use crate::Prescales;
 use crate::coefficients::coefficient;
 use limits::COEFFICIENT_SIZE;
 use limits::HIGHEST_ORDER;
@@ -22,11 +22,11 @@ ghost use Prim.Native.Nat.{_+_, _*_, _≤_};
 ghost use lib.Dec.{eqb};
 ghost use lib.ListN.{length, drop};
 ghost use Rattle.refusals.specs.FieldsVerdict.{fieldsVerdict};
-ghost use Rattle.sets.specs.Set.{setOf, setFields, setVerdict, multiplierRight, offsetRight, coefficientFields};
+ghost use Rattle.sets.specs.Set.{prescalesOf, setFields, setVerdict, multiplierRight, offsetRight, coefficientFields};
 ghost use Rattle.sets.specs.Preconditions.{OrdersRead};
 
-pub fn read_set(body: &[u8]) -> Set
-    ensures { λ r. ⌜ r ≡ setOf (now (body .entry)) ⌝ }
+pub fn read_prescales(body: &[u8]) -> Prescales
+    ensures { λ r. ⌜ r ≡ prescalesOf (now (body .entry)) ⌝ }
 {
     // read from the last field on, so that one bounds check serves all fields
     let temperature = Prescale {
@@ -39,7 +39,7 @@ pub fn read_set(body: &[u8]) -> Set
         multiplier: number4(body, 4),
         order: number1(body, 2),
     };
-    Set {
+    Prescales {
         pressure,
         temperature,
     }

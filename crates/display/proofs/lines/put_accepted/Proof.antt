@@ -14,14 +14,14 @@ read-identity-requires c κs = search laws
 body-of-requires-2 : tie.Need-body-of-requires-2
 body-of-requires-2 c κs = search laws
 
-read-set-requires : tie.Need-read-set-requires
-read-set-requires c κs = search laws
+read-prescales-requires : tie.Need-read-prescales-requires
+read-prescales-requires c κs = search laws
 
 body-of-requires-3 : tie.Need-body-of-requires-3
 body-of-requires-3 c κs = search laws
 
-read-set-requires-2 : tie.Need-read-set-requires-2
-read-set-requires-2 c κs = search laws
+read-prescales-requires-2 : tie.Need-read-prescales-requires-2
+read-prescales-requires-2 c κs = search laws
 
 put-identity-requires : tie.Need-put-identity-requires
 put-identity-requires c κs = search laws
@@ -42,9 +42,9 @@ put-accepted-spec =
     body-of-requires
     read-identity-requires
     body-of-requires-2
-    read-set-requires
+    read-prescales-requires
     body-of-requires-3
-    read-set-requires-2
+    read-prescales-requires-2
     put-identity-requires
     put-sets-requires
     same-length

@@ -10,8 +10,8 @@ use Rattle.reading.specs.FrequencyLaws.{prescaled-bound}
 use Rattle.reading.proofs.polynomial.set_result.Statement.{statement}
 use Rattle.reading.proofs.polynomial.set_result.Tie as tie
 
-read-set-requires : tie.Need-read-set-requires
-read-set-requires c κs = search needs
+read-prescales-requires : tie.Need-read-prescales-requires
+read-prescales-requires c κs = search needs
 
 prescaled-requires : tie.Need-prescaled-requires
 prescaled-requires c κs = search needs
@@ -39,7 +39,7 @@ returns : tie.Need-returns
 unfolding setResult resultFromXp gridResult
 returns c =
     let b = c .before .before .before .before .before .before .before .before .before .before in
-    let set = c .before .before .before .before .before .before .before .before .read-set .ensures in
+    let set = c .before .before .before .before .before .before .before .before .read-prescales .ensures in
     let g = c .before .before .before .xp .given in
     let x = rw (toZ-ofZ (b .fits .fp), set) at (c .before .before .before .before .before .prescaled .ensures) in
     let xp = read-back w64 (g .0 .0) (c .before .before .known-told .given .0 .1) in
@@ -49,7 +49,7 @@ returns-2 : tie.Need-returns-2
 unfolding setResult
 returns-2 c =
     let b = c .before .before .before .before .before .before .before .before in
-    let set = c .before .before .before .before .before .before .read-set .ensures in
+    let set = c .before .before .before .before .before .before .read-prescales .ensures in
     let x = rw (toZ-ofZ (b .fits .fp), set) at (c .before .before .before .prescaled .ensures) in
     value-refused _ x (c .before .refusal .given .1)
 
@@ -57,7 +57,7 @@ pub set-result-spec : {M : Type 1} → statement M
 set-result-spec =
     tie.close
     (tie.spec
-    read-set-requires
+    read-prescales-requires
     prescaled-requires
     enum-known-xp
     add-result-from-xp

@@ -1,7 +1,7 @@
 use borrow.Author.Needs.{needs}
 use Rattle.sets.specs.SetLaws.{set-read}
-use Rattle.sets.proofs.sets.read_set.Statement.{statement}
-use Rattle.sets.proofs.sets.read_set.Tie as tie
+use Rattle.sets.proofs.sets.read_prescales.Statement.{statement}
+use Rattle.sets.proofs.sets.read_prescales.Tie as tie
 
 number8-requires : tie.Need-number8-requires
 number8-requires c κs = search needs
@@ -24,8 +24,8 @@ number1-requires-2 c κs = search needs
 returns : tie.Need-returns
 returns c = search (needs, set-read)
 
-pub read-set-spec : {M : Type 1} → statement M
-read-set-spec =
+pub read-prescales-spec : {M : Type 1} → statement M
+read-prescales-spec =
     tie.close
     (tie.spec
     number8-requires
