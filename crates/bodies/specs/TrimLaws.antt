@@ -1,4 +1,4 @@
--- What is read of a trim.
+-- A trim from the fields that were read.
 use mathlib.Core.Path.{_≡_}
 use mathlib.Core.List.{List}
 use Prim.Native.Nat.{ℕ}

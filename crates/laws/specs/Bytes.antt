@@ -1,4 +1,4 @@
--- Lists of bytes.
+-- A list of bytes: every element is below 256.
 use mathlib.Core.List.{List}
 use Prim.Native.Nat.{ℕ, _<_}
 use lib.ListN.{getD}

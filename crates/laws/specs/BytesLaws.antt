@@ -1,4 +1,4 @@
--- Lists of bytes put together and cut.
+-- Lists of bytes, joined and cut, are lists of bytes.
 use mathlib.Core.List.{List, [], _∷_, _++_}
 use Prim.Native.Nat.{ℕ, zero, suc, _+_, _<_}
 use native.Mathlib.Omega.{arith}

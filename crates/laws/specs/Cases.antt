@@ -1,4 +1,4 @@
--- Going by cases.
+-- Case splits: on the order of two numbers, and on a test with its equation.
 use mathlib.Core.Path.{_≡_, refl}
 use mathlib.Core.Bool.{Bool, true, false, _&&_, false≢true}
 use Prim.Native.Nat.{ℕ, _≤_, _<_}

@@ -1,5 +1,4 @@
--- How omega reaches ℤ: z is over z - under z, two naturals of which one is 0, and sums, products by a natural, orders and
--- distances of whole numbers are linear facts about these.
+-- Facts about ℤ in the form that omega reads: z is over z - under z, two naturals of which one is 0.
 use mathlib.Core.Path.{_≡_, refl, sym, ap, _∙_}
 use mathlib.Core.Bool.{Bool, true, false}
 use Prim.Native.Nat.{ℕ, zero, suc, _+_, _*_, _≤_, _<_}

@@ -1,4 +1,4 @@
--- Lists by what stands at a place.
+-- A list from a place on, by its first two elements.
 use mathlib.Core.Path.{_≡_}
 use mathlib.Core.List.{List, _∷_}
 use Prim.Native.Nat.{ℕ, suc, _+_, _<_}

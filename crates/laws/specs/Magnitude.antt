@@ -1,4 +1,4 @@
--- How far from zero a whole number is. A bound on z is one on natAbs z, in ℕ, where omega reads it.
+-- The magnitude of a whole number: a bound on z is one on natAbs z, in ℕ, where omega reads it.
 use mathlib.Core.Path.{_≡_, refl}
 use mathlib.Core.Bool.{Bool, true, false}
 use Prim.Native.Nat.{ℕ, zero, suc, _+_, _-_, _*_, _≤_, _<_, zero-le}

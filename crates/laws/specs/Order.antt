@@ -1,4 +1,4 @@
--- What a test on numbers says.
+-- What the tests of order say of numbers: less against at most, the sign, how far from 0.
 use mathlib.Core.Path.{_≡_, refl, sym, ap, _∙_}
 use mathlib.Core.Bool.{true, false, not}
 use Prim.Native.Nat.{ℕ, suc, _+_, _≤_, _<_}

@@ -1,4 +1,4 @@
--- A signed number and the bits that hold it.
+-- Signed numbers and the bits that hold them: what fits, and the way back from the bits.
 use mathlib.Core.Path.{_≡_, refl, ap, _∙_}
 use mathlib.Core.Bool.{true}
 use Prim.Native.Nat.{ℕ, zero, suc, _+_, _-_, _^_, _≤_, _<_}

@@ -1,1 +1,1 @@
-// No code: the laws stand in specs/, a file a subject.
+// No code: the laws stand in specs/, one file for each subject.

@@ -1,4 +1,4 @@
--- A part's elements, and what the loops over a slice keep: each turn, and the end.
+-- The elements of a part, and the invariants of the loops that clear and sum a slice.
 use mathlib.Core.Path.{_≡_, refl, sym, _∙_}
 use mathlib.Core.List.{List, [], _∷_, append-assoc, append-nil}
 use Prim.Native.Nat.{ℕ, suc, _+_, _-_, _%_, _≤_, _<_, min}

@@ -1,3 +1,4 @@
+// Numbers among bytes, low byte first: unsigned, and signed in two's complement.
 ghost use mathlib.Core.Path.{_≡_};
 ghost use Prim.Native.Nat.{_+_, _^_, _≤_, _<_};
 ghost use lib.ListN.{length};
@@ -70,7 +71,7 @@ pub fn signed8(bytes: &[u8], place: usize) -> i64
     signed(number8(bytes, place))
 }
 
-// Of bytes by value: a caller that knows that they are all there needs no test.
+// Of bytes by value: a caller that knows that all eight are there needs no bounds check.
 pub fn number_of_8(bytes: [u8; 8]) -> u64
     ensures { λ r. ⌜ r ≡ numberAt 8 bytes 0 ⌝ }
 {
@@ -93,7 +94,7 @@ fn signed(number: u64) -> i64
     }
 }
 
-// The same where every byte is there: no test, so that a number comes to one load.
+// Where every byte is known to be there: no bounds check, so that a number is one load.
 fn number1_unchecked(bytes: &[u8], place: usize) -> u8
     requires { ⌜ place < length (now bytes) ⌝ }
     ensures { λ r. ⌜ r ≡ numberAt 1 (now (bytes .entry)) place ⌝ }

@@ -1,3 +1,4 @@
+// A part of a slice, the sum of its bytes, zeros from a place on.
 ghost use mathlib.Core.Path.{_≡_};
 ghost use Prim.Native.Nat.{_%_};
 ghost use Rattle.laws.specs.Sums.{total};

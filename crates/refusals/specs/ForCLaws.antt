@@ -1,4 +1,4 @@
--- Laws of answers as C gets them: each case told, and an answer told that is known by a definition.
+-- Laws of answers as C gets them: each case, and an answer that a definition gives.
 use mathlib.Core.List.{List}
 use mathlib.Core.Path.{_≡_, ap, _∙_}
 use Prim.Native.Nat.{ℕ}
@@ -23,8 +23,8 @@ module _ {f : Filled} where
   pub for-c-length : (n : ℕ) → f ≡ Length n → record { number = 0; detail = 0; length = n } ≡ filledForC f
   for-c-length n e = rw e
 
-  pub tell-unfilled : (r : Refusal) → f ≡ NotFilled r → record { number = r .number; detail = r .detail; length = 0 } ≡ filledForC f
-  tell-unfilled r e = rw e
+  pub for-c-unfilled : (r : Refusal) → f ≡ NotFilled r → record { number = r .number; detail = r .detail; length = 0 } ≡ filledForC f
+  for-c-unfilled r e = rw e
 
 pub told-verdict : {v said : Verdict} {r : VerdictForC} → v ≡ said → r ≡ verdictForC v → r ≡ verdictForC said
 told-verdict e f = f ∙ ap verdictForC e

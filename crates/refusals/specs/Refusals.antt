@@ -1,4 +1,4 @@
--- Checks in order, and what a lent buffer holds.
+-- Checks in order, of which the first refusal wins, and what a lent buffer holds.
 use mathlib.Core.Bool.{Bool, cond}
 use mathlib.Core.List.{List, _++_}
 use mathlib.Core.Path.{_≡_}

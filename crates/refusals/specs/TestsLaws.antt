@@ -1,5 +1,4 @@
--- What a test in the code tells of a field: x is what the code read, and the field is defined of n, or of z where it is signed;
--- and the rules by which a search goes through a body's fields.
+-- What a test in the code tells of a field, and the rulesets by which a search goes through a body's fields.
 use mathlib.Core.Path.{_≡_, sym, ap, _∙_}
 use mathlib.Core.Bool.{Bool, true, false, not, _&&_}
 use Prim.Native.Nat.{ℕ, _≤_, _<_}
@@ -23,7 +22,7 @@ use Rattle.refusals.specs.FieldsVerdictLaws.{
   loop-end,
 }
 
--- ---- numbers
+-- ---- numbers: x is what the code read, and the field is defined of n, or of z where it is signed
 
 module _ (n k : ℕ) where
   pub equal : n ≡ k → TestResult (eqb n k) false

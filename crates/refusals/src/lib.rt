@@ -3,7 +3,6 @@ ghost use mathlib.Core.Path.{_≡_};
 ghost use Rattle.refusals.specs.Refusals.{refusal, Settled};
 ghost use Rattle.refusals.specs.FieldsVerdict.{refusedAt};
 
-// Answers for C.
 mod for_c;
 
 pub use for_c::FilledForC;

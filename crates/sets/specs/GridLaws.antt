@@ -1,4 +1,4 @@
--- The grid: a place of it, and what the loops that fill a row and the grid keep.
+-- A place of the grid, and the invariants of the loops that fill a row and the grid.
 use mathlib.Core.Path.{_≡_, refl}
 use mathlib.Core.Bool.{_&&_, and-false}
 use mathlib.Core.List.{List, _∷_}

@@ -25,7 +25,7 @@ prescalesOf body =
       temperature = record { order = temperatureOrder body; multiplier = numberAt 4 body 16; offset = numberAt 8 body 20 };
     }
 
--- N, and the coefficients, from A0 on
+-- N, the size of a set, and the coefficients, from A0 on
 abbrev pub coefficientCount : List ℕ → ℕ
 coefficientCount body = (pressureOrder body + 1) * (temperatureOrder body + 1)
 

@@ -1,4 +1,4 @@
--- Laws of `rounded`. Callers use `rounded-nearest` and what follows from it, and never look into the definition.
+-- Laws of `rounded`: callers cite `rounded-nearest` and what follows from it, and never unfold the definition.
 use mathlib.Core.Path.{_≡_, refl, sym, ap, _∙_}
 use mathlib.Core.Bool.{Bool, true, false}
 use Prim.Native.Nat.{ℕ, suc, _+_, _-_, _*_, _/_, _%_, _≤_, _<_}
@@ -32,7 +32,8 @@ module _ (m : ℕ) (p : 0 < m) where
       go : (y : ℤ) → over (y +ℤ pos 1) + under (floorDiv y m *ℤ pos m +ℤ pos m) ≤ over (floorDiv y m *ℤ pos m +ℤ pos m) + under (y +ℤ pos 1)
       go (pos a) = omega (arith, lt-div-mul-add {a = a} p)
       go (negsuc a) =
-          omega (arith, sum-parts (negsuc a) (pos 1), sum-parts (negsuc (a / m) *ℤ pos m) (pos m), product-over (negsuc (a / m)) m, product-under (negsuc (a / m)) m, div-mul-le-self a m)
+          let q : ℤ = negsuc (a / m) in
+          omega (arith, sum-parts (negsuc a) (pos 1), sum-parts (q *ℤ pos m) (pos m), product-over q m, product-under q m, div-mul-le-self a m)
 
 -- ---- nearest
 
@@ -97,7 +98,7 @@ rounded-nothing d p = none (rounded (pos 0) d) (rounded-high d p (pos 0) 0 (omeg
     none (pos a) h = ap pos (omega arith)
     none (negsuc a) h = absurd (omega arith)
 
--- ---- how the code comes to it: naturals by the rest of the division
+-- ---- how the code comes to it: naturals by the remainder
 
 module _ (n d : ℕ) where
   quotient-is : 0 < d → rounded (pos n) d ≡ pos (n / d + (2 * (n % d) + d) / (2 * d))
@@ -127,7 +128,7 @@ module _ (n d : ℕ) where
       let s : 2 * (n % d) + d < 2 * d = omega arith in
       sym (quotient-is p ∙ rw (div-eq-of-lt s) (ap pos (omega arith)))
 
-  -- a quotient with a rest has a denominator of 2 or more, so there is room for one more
+  -- a quotient with a remainder has a denominator of 2 or more, so there is room for one more
   pub one-more-fits : Fits w64 n → 0 < n % d → Fits w64 (n / d + 1)
   one-more-fits f h = split d 0 none (λ (p : 0 < d). some p)
     where

@@ -1,4 +1,4 @@
--- What a machine keeps of a sum of two of its numbers.
+-- The wrapping sum: what 64 bits keep of a sum of two numbers.
 use mathlib.Core.Bool.{cond}
 use Prim.Native.Nat.{_-_, _^_}
 use lib.IntN.{ℤ, pos, negℤ, _+ℤ_, _-ℤ_}

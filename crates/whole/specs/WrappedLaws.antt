@@ -1,7 +1,7 @@
--- Laws of `wrapped`.
+-- Laws of `wrapped`: by the size of the number, and how the code comes to it.
 use mathlib.Core.Path.{_≡_, sym, _∙_}
 use mathlib.Core.Bool.{true, false}
-use Prim.Native.Nat.{ℕ, _+_, _-_, _^_, _≤_, _<_}
+use Prim.Native.Nat.{ℕ, _+_, _-_, _*_, _^_, _≤_, _<_}
 use native.Mathlib.Omega.{arith}
 use lib.IntN.{ℤ, pos, negsuc, negℤ, natAbs, _+ℤ_, _-ℤ_}
 use lib.Signed.{ltZ}
@@ -70,7 +70,7 @@ module _ (a b s t : ℤ) (f : SFits w64 a) (g : SFits w64 b) where
         all = exact w64 (rw (toZ-ofZ f, toZ-ofZ g, toZ-ofZ h, toZ-ofZ i, toZ-ofZ j) e) (rw e at k);
       }
 
-  moved-parts : over (moved a b s t) + (under a + under b + (under s + under s) + under t) ≡ over a + over b + (over s + over s) + over t + under (moved a b s t)
+  moved-parts : over (moved a b s t) + (under a + under b + 2 * under s + under t) ≡ over a + over b + 2 * over s + over t + under (moved a b s t)
   moved-parts = omega (arith, sum-parts a s, sum-parts b s, sum-parts (a +ℤ s) (b +ℤ s), sum-parts ((a +ℤ s) +ℤ (b +ℤ s)) t)
 
 module _ (a b : ℤ) (f : SFits w64 a) (g : SFits w64 b) where

@@ -7,7 +7,6 @@ ghost use lib.Dec.{leb};
 ghost use lib.IntN.{natAbs, _+ℤ_};
 ghost use Rattle.whole.specs.Wrapped.{wrapped};
 
-// n / d to the nearest whole number.
 pub mod rounding;
 mod sign;
 
@@ -43,11 +42,11 @@ pub fn beyond(number: i64, limit: u64) -> bool
         return false;
     }
     let most = limit as i64;
-    // not by the magnitude: the compiler makes one test of these two
+    // not by the magnitude: of these two comparisons the compiler makes one
     number < -most || most < number
 }
 
-// a + b, or where that does not fit the number that differs from it by 2^64: to the compiler one addition.
+// The wrapping sum: a + b, or where that does not fit the number that differs from it by 2^64. The compiler makes one addition of it.
 pub fn wrapped_sum(a: i64, b: i64) -> i64
     ensures { λ r. ⌜ r ≡ wrapped (a +ℤ b) ⌝ }
 {

@@ -1,3 +1,4 @@
+// A quotient rounded to the nearest whole number, halves upward.
 use crate::HIGHEST;
 ghost use mathlib.Core.Path.{_≡_};
 ghost use Prim.Native.Nat.{_+_, _<_, _^_};

@@ -1,5 +1,5 @@
 use borrow.Author.Needs.{needs}
-use Rattle.refusals.specs.ForCLaws.{for-c-length, tell-unfilled}
+use Rattle.refusals.specs.ForCLaws.{for-c-length, for-c-unfilled}
 use Rattle.refusals.proofs.for_c.filled_for_c.Statement.{statement}
 use Rattle.refusals.proofs.for_c.filled_for_c.Tie as tie
 
@@ -13,7 +13,7 @@ returns : tie.Need-returns
 returns c = search (needs, for-c-length)
 
 returns-2 : tie.Need-returns-2
-returns-2 c = search (needs, tell-unfilled)
+returns-2 c = search (needs, for-c-unfilled)
 
 pub filled-for-c-spec : {M : Type 1} → statement M
 filled-for-c-spec = tie.close (tie.spec enum-known-filled enum-known-filled-2 returns returns-2)

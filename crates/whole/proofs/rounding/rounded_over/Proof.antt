@@ -48,6 +48,9 @@ shift-fits {z} d f = record { sfits = omega (arith, mag-shr z d, f .sfits) }
 -- ---- the code's numbers
 
 module _ (s : tie.Start) where
+  abbrev denominator : ℕ
+  denominator = 2 ^ s .args .power
+
   small : s .args .half < 2 ^ 32
   small = omega (arith, s .fits .half .fits)
 
@@ -67,12 +70,11 @@ module _ (s : tie.Start) where
   at-least-one : 0 < s .args .half
   at-least-one = omega (arith, pow-pos (s .args .power), s .pre .0)
 
-  result-fits : SFits w64 (rounded (s .args .n) (2 ^ s .args .power))
+  result-fits : SFits w64 (rounded (s .args .n) denominator)
   result-fits =
-      let d = 2 ^ s .args .power in
-      let two : 2 ≤ d = omega (arith, at-least-one, s .pre .0) in
-      let far : natAbs (s .args .n) ≤ 2 ^ 62 * d = omega (arith, distance-of-fitting (s .args .n) (s .fits .n), mul-le-mul-left (2 ^ 62) two) in
-      fits-64 (omega (arith, rounded-high d (omega arith) (s .args .n) (2 ^ 62) far))
+      let two : 2 ≤ denominator = omega (arith, at-least-one, s .pre .0) in
+      let far : natAbs (s .args .n) ≤ 2 ^ 62 * denominator = omega (arith, distance-of-fitting (s .args .n) (s .fits .n), mul-le-mul-left (2 ^ 62) two) in
+      fits-64 (omega (arith, rounded-high denominator (omega arith) (s .args .n) (2 ^ 62) far))
 
 -- n is near the highest number
 module _ (c : tie.Then1) where
@@ -89,12 +91,13 @@ module _ (c : tie.Then1) where
   difference-exact : Exact w64 difference (c .before .args .n -ℤ pos (c .before .args .half))
   difference-exact = exact w64 (rw (toZ-ofZ (c .before .fits .n), half-is (c .before))) less
 
-  result-exact : Exact w64 (kept w64 (shrZ (kept w64 difference) (2 ^ c .before .args .power)) +ℤ pos 1) (rounded (c .before .args .n) (2 ^ c .before .args .power))
+  result-exact : Exact w64 (kept w64 (shrZ (kept w64 difference) (denominator (c .before))) +ℤ pos 1) (rounded (c .before .args .n) (denominator (c .before)))
   unfolding last
   result-exact =
       let s = c .before in
-      let by-less = rounded-by-less (s .args .n) (s .args .half) _ (s .pre .0) (at-least-one s) (near (s .args .n) (s .args .half) (s .fits .n) (small s) above) in
-      exact w64 (rw (difference-exact .back, toZ-ofZ (shift-fits (2 ^ s .args .power) less)) by-less) (result-fits s)
+      let close = near (s .args .n) (s .args .half) (s .fits .n) (small s) above in
+      let by-less = rounded-by-less (s .args .n) (s .args .half) _ (s .pre .0) (at-least-one s) close in
+      exact w64 (rw (difference-exact .back, toZ-ofZ (shift-fits (denominator s) less)) by-less) (result-fits s)
 
 -- n is not
 module _ (c : tie.Else1) where
@@ -108,8 +111,8 @@ module _ (c : tie.Else1) where
   sum-exact : Exact w64 sum (c .before .args .n +ℤ pos (c .before .args .half))
   sum-exact = exact w64 (rw (toZ-ofZ (c .before .fits .n), half-is (c .before))) more
 
-  sum-quotient-exact : Exact w64 (shrZ (kept w64 sum) (2 ^ c .before .args .power)) (rounded (c .before .args .n) (2 ^ c .before .args .power))
-  sum-quotient-exact =
+  quotient-exact : Exact w64 (shrZ (kept w64 sum) (denominator (c .before))) (rounded (c .before .args .n) (denominator (c .before)))
+  quotient-exact =
       let s = c .before in
       exact w64 (rw (sum-exact .back) (rounded-by-more (s .args .n) (s .args .half) _ (s .pre .0))) (result-fits s)
 
@@ -146,7 +149,7 @@ shr-result-2 : tie.Need-shr-result-2
 shr-result-2 c = search needs
 
 returns-2 : tie.Need-returns-2
-returns-2 c = sum-quotient-exact c .back
+returns-2 c = quotient-exact c .back
 
 pub rounded-over-spec : {M : Type 1} → statement M
 rounded-over-spec =
