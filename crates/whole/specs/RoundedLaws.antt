@@ -1,18 +1,14 @@
 -- Laws of `rounded`: callers cite `rounded-nearest` and what follows from it, and never unfold the definition.
-use mathlib.Core.Path.{_≡_, refl, sym, ap, _∙_}
-use mathlib.Core.Bool.{Bool, true, false}
+use mathlib.Core.Path.{_≡_, sym, ap, _∙_}
 use Prim.Native.Nat.{ℕ, suc, _+_, _-_, _*_, _/_, _%_, _≤_, _<_}
 use native.Mathlib.Nat.{div-zero, div-eq-of-lt, div-eq-sub-div, add-div-right, div-div-eq-div-mul, div-mul-le-self, lt-div-mul-add, div-add-mod', mod-lt, mul-add-div-right, mul-left-comm, mul-le-mul-left, mul-le-mul-right, suc-mul}
-use native.Mathlib.Numerals.{add-one}
 use native.Mathlib.Omega.{arith}
-use borrow.Author.Tests.{ltb-true, ltb-false}
-use lib.Dec.{ltb}
-use lib.IntN.{ℤ, pos, negsuc, negℤ, natAbs, subℕ, _+ℤ_, _-ℤ_, _*ℤ_, *ℤ-comm}
+use lib.IntN.{ℤ, pos, negsuc, negℤ, natAbs, _+ℤ_, _-ℤ_, _*ℤ_, *ℤ-comm}
 use lib.Signed.{_≤ℤ_, shrZ}
 use mir.Syntax.{w64}
 use mir.Val.{Fits}
 use Rattle.laws.specs.Cases.{split, positive}
-use Rattle.laws.specs.Magnitude.{difference-ge, difference-lt, magnitude-product, magnitude-sum-low, magnitude-difference-low, magnitude-negated}
+use Rattle.laws.specs.Magnitude.{magnitude-product, magnitude-sum-low, magnitude-difference-low, magnitude-negated}
 use Rattle.laws.specs.Products.{distributive-left, associative, product-negated}
 use Rattle.laws.specs.Linear.{over, under, sum-parts, negated-over, negated-under, product-over, product-under, order-of-parts, parts-of-order, same-parts, distance}
 use Rattle.whole.specs.Rounded.{floorDiv, rounded}
