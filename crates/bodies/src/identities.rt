@@ -93,6 +93,10 @@ fn days_in(year: u16, month: u8) -> u8
     requires { ⌜ (1 ≤ month) × (month ≤ 12) ⌝ }
     ensures { λ r. ⌜ r ≡ daysIn year month ⌝ }
 {
-    let lengths: [u8; 12] = [31, february(year), 31, 30, 31, 30, 31, 31, 30, 31, 30, 31];
+    // apart from the table, which is then a constant and not built on the stack at each call
+    if month == 2 {
+        return february(year);
+    }
+    let lengths: [u8; 12] = [31, 28, 31, 30, 31, 30, 31, 31, 30, 31, 30, 31];
     lengths[(month - 1) as usize]
 }
