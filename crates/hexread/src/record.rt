@@ -1,5 +1,5 @@
 ghost use mathlib.Core.Path.{_≡_};
-ghost use Prim.Native.Nat.{_+_, _*_, _≤_, max};
+ghost use Prim.Native.Nat.{_+_, _*_, _≤_};
 ghost use lib.ListN.{length, take, drop};
 ghost use Rattle.hexread.specs.DigitsLaws.{Valued};
 ghost use Rattle.hexread.specs.PairsLaws.{Put, TookData};
@@ -86,19 +86,6 @@ fn take_data(line: &[u8], count: usize, image: &mut [u8], to: usize, space: usiz
     digits_sum(&line[9..end])
 }
 
-fn greater(one: usize, other: usize) -> usize
-    ensures { λ r. ⌜ r ≡ max one other ⌝ }
-{
-    if one < other { other } else { one }
-}
-
-// The greatest of five bytes and sums: 256 and above where one is of characters that are no digits.
-fn worst(high: usize, low: usize, kind: usize, sum: usize, check: usize) -> usize
-    ensures { λ r. ⌜ r ≡ max high (max low (max kind (max sum check))) ⌝ }
-{
-    greater(high, greater(low, greater(kind, greater(sum, check))))
-}
-
 // The record of a line that is as long as its count says, judged, its data in the image where they have room.
 pub fn take_record(
     values: &[usize; 256],
@@ -112,11 +99,23 @@ pub fn take_record(
     ensures { λ r. ⌜ Taken r (now (line .entry)) (now (image .entry)) (now (image .exit)) room at ⌝ }
 {
     let high = pair(values, line, 3);
+    if 256 <= high {
+        return Record::Fault(1);
+    }
     let low = pair(values, line, 5);
+    if 256 <= low {
+        return Record::Fault(1);
+    }
     let kind = pair(values, line, 7);
+    if 256 <= kind {
+        return Record::Fault(1);
+    }
     let data = take_data(line, count, image, at, room - at);
+    if 256 <= data {
+        return Record::Fault(1);
+    }
     let check = pair(values, line, 9 + count * 2);
-    if 256 <= worst(high, low, kind, data, check) {
+    if 256 <= check {
         return Record::Fault(1);
     }
     if (count + high + low + kind + data + check) % 256 != 0 {
