@@ -91,7 +91,7 @@ line-counted u n next c p h f z =
     let b = count-of-line u (11 + n * 2) (omega arith) (omega arith) in
     let high = getD-take (11 + n * 2) u 1 0 (omega arith) in
     let low = getD-take (11 + n * 2) u (1 + 1) 0 (omega arith) in
-    let q : Pair (countedLine u n) 1 n = record { is = rw (high, low) (p .is) } in
+    let q : Pair (countedLine u n) 1 n = record { is = rw (high, low) (p .is); most = p .most } in
     record {
       long = l;
       colon = getD-take (11 + n * 2) u 0 0 (omega arith) ∙ c;

@@ -7,13 +7,14 @@ use native.Mathlib.Omega.{arith}
 use borrow.Author.Tests.{eq-eqb, ne-eqb}
 use lib.ListN.{length, take, drop, getD}
 use lib.Seq.{paste-zero, take-paste}
+use Rattle.laws.specs.Cases.{split}
 use Rattle.laws.specs.Sums.{total}
 use Rattle.hextext.specs.declared.Record.{Record}
 use Rattle.hextext.specs.declared.Record.the-variants.{Data, End, Fault}
 use Rattle.hextext.specs.Record.{allDigits, bytesOf, recordBytes, countOf, dataOf, formed, summed, lineOf, typed, placed, judge}
 use Rattle.hextext.specs.RecordLaws.{byteAt, allDigits-end, bytes-total-more, bytes-total-end, formed-at, recordBytes-head, length-bytesOf}
 use Rattle.hexline.specs.TypedLaws.{end-empty, says-data}
-use Rattle.hexread.specs.DigitsLaws.{Pair, pair-byte, pair-digits, pair-none}
+use Rattle.hexread.specs.DigitsLaws.{noDigit, Pair, pair-below, pair-byte, pair-digits, pair-none, none-after-pair}
 use Rattle.hexread.specs.PairsLaws.{TookData}
 
 -- a line with a colon and a good count n, as long as n says
@@ -42,6 +43,13 @@ data-from-nine : (l : List ℕ) (n : ℕ) → length l ≡ 11 + n * 2 → countO
 unfolding dataOf
 data-from-nine l n h e = rw (e, recordBytes-head l (omega arith))
 
+last-byte : (l : List ℕ) (i check : ℕ) → Pair l i check → check < 256 → length l ≡ i + 2 → total (bytesOf (drop i l)) ≡ check
+last-byte l i check p h e = omega (arith, bytes-total-more l i (omega arith), bytes-total-end l (i + 2) (omega arith), pair-byte l i check p h)
+
+parts-add-up : (n high low kind t s last check : ℕ) → t % 256 ≡ (s + last) % 256 → last ≡ check
+    → (n + (high + (low + (kind + t)))) % 256 ≡ (n + high + low + kind + s + check) % 256
+parts-add-up n high low kind t s last check e f = omega arith
+
 module _ (l : List ℕ) (n : ℕ) (v : Counted l n) where
   long : 11 ≤ length l
   long = omega (arith, v .long)
@@ -57,90 +65,89 @@ module _ (l : List ℕ) (n : ℕ) (v : Counted l n) where
     unfolding judge placed lineOf
     no-digits e = taken-fault 1 l d d′ room at (rw (formed-by-digits false e))
 
-    -- each section knows one pair more
-    pub taken-bad-high : (high : ℕ) → Pair l 3 high → 256 ≤ high → Taken (Fault 1) l d d′ room at
-    taken-bad-high high p h = no-digits (v .digits ∙ pair-none l 3 high p (omega (arith, long)) h)
+    module _ (high low kind : ℕ) (ph : Pair l 3 high) (pl : Pair l 5 low) (pk : Pair l 7 kind) (s : ℕ) (w : TookData l n d d′ at (room - at) s) where
+      pub taken-bad-data : 256 ≤ s → Taken (Fault 1) l d d′ room at
+      taken-bad-data h =
+          let after-kind = none-after-pair l 7 kind pk (omega (arith, long)) (w .sum .bad h) in
+          let after-low = none-after-pair l 5 low pl (omega (arith, long)) after-kind in
+          no-digits (v .digits ∙ none-after-pair l 3 high ph (omega (arith, long)) after-low)
 
-    module _ (high : ℕ) (ph : Pair l 3 high) (hh : high < 256) where
-      digits-high : allDigits (drop 1 l) ≡ allDigits (drop 5 l)
-      digits-high = v .digits ∙ pair-digits l 3 high ph (omega (arith, long)) hh
+      module _ (hs : s < 256) (check : ℕ) (pc : Pair l (9 + n * 2) check) where
+        -- the first pair that is no digits
+        pub taken-bad-pair : noDigit ≤ n + high + low + kind + s + check → Taken (Fault 1) l d d′ room at
+        taken-bad-pair h =
+            no-digits (v .digits ∙ split 256 high (pair-none l 3 high ph (omega (arith, long)))
+            (λ hh. pair-digits l 3 high ph (omega (arith, long)) hh ∙ split 256 low (pair-none l 5 low pl (omega (arith, long)))
+            (λ hl. pair-digits l 5 low pl (omega (arith, long)) hl ∙ split 256 kind (pair-none l 7 kind pk (omega (arith, long)))
+            (λ hk. pair-digits l 7 kind pk (omega (arith, long)) hk
+            ∙ w .sum .good hs .digits
+            ∙ pair-none l (9 + n * 2) check pc (omega (arith, v .long)) (omega (arith, v .small))))))
 
-      pub taken-bad-low : (low : ℕ) → Pair l 5 low → 256 ≤ low → Taken (Fault 1) l d d′ room at
-      taken-bad-low low p h = no-digits (digits-high ∙ pair-none l 5 low p (omega (arith, long)) h)
+        module _ (below : n + high + low + kind + s + check < noDigit) where
+          hh : high < 256
+          hh = pair-below l 3 high ph (omega arith)
 
-      module _ (low : ℕ) (pl : Pair l 5 low) (hl : low < 256) where
-        digits-low : allDigits (drop 1 l) ≡ allDigits (drop 7 l)
-        digits-low = digits-high ∙ pair-digits l 5 low pl (omega (arith, long)) hl
+          hl : low < 256
+          hl = pair-below l 5 low pl (omega arith)
 
-        pub taken-bad-kind : (kind : ℕ) → Pair l 7 kind → 256 ≤ kind → Taken (Fault 1) l d d′ room at
-        taken-bad-kind kind p h = no-digits (digits-low ∙ pair-none l 7 kind p (omega (arith, long)) h)
+          hk : kind < 256
+          hk = pair-below l 7 kind pk (omega arith)
 
-        module _ (kind : ℕ) (pk : Pair l 7 kind) (hk : kind < 256) where
-          digits-kind : allDigits (drop 1 l) ≡ allDigits (drop 9 l)
-          digits-kind = digits-low ∙ pair-digits l 7 kind pk (omega (arith, long)) hk
+          hc : check < 256
+          hc = pair-below l (9 + n * 2) check pc (omega arith)
 
-          module _ (s : ℕ) (w : TookData l n d d′ at (room - at) s) where
-            pub taken-bad-data : 256 ≤ s → Taken (Fault 1) l d d′ room at
-            taken-bad-data h = no-digits (digits-kind ∙ w .sum .bad h)
+          digits-all : allDigits (drop 1 l) ≡ true
+          digits-all =
+              v .digits
+              ∙ pair-digits l 3 high ph (omega (arith, long)) hh
+              ∙ pair-digits l 5 low pl (omega (arith, long)) hl
+              ∙ pair-digits l 7 kind pk (omega (arith, long)) hk
+              ∙ w .sum .good hs .digits
+              ∙ pair-digits l (9 + n * 2) check pc (omega (arith, v .long)) hc
+              ∙ allDigits-end l (9 + n * 2 + 2) (omega (arith, v .long))
 
-            module _ (hs : s < 256) where
-              digits-data : allDigits (drop 1 l) ≡ allDigits (drop (9 + n * 2) l)
-              digits-data = digits-kind ∙ w .sum .good hs .digits
+          total-of-pairs : total (recordBytes l) % 256 ≡ (n + high + low + kind + s + check) % 256
+          unfolding total
+          total-of-pairs =
+              rw (
+                recordBytes-head l (omega (arith, long)),
+                ← v .counts,
+                ← pair-byte l 3 high ph hh,
+                ← pair-byte l 5 low pl hl,
+                ← pair-byte l 7 kind pk hk,
+              )
+              (parts-add-up n high low kind _ s _ check (w .sum .good hs .sum) (last-byte l (9 + n * 2) check pc hc (omega (arith, v .long))))
 
-              pub taken-bad-check : (check : ℕ) → Pair l (9 + n * 2) check → 256 ≤ check → Taken (Fault 1) l d d′ room at
-              taken-bad-check check p h = no-digits (digits-data ∙ pair-none l (9 + n * 2) check p (omega (arith, v .long)) h)
+          pub taken-bad-sum : ((n + high + low + kind + s + check) % 256 ≡ 0 → ⊥) → Taken (Fault 2) l d d′ room at
+          unfolding judge placed lineOf summed
+          taken-bad-sum h =
+              taken-fault 2 l d d′ room at (rw (formed-by-digits true digits-all, total-of-pairs, ne-eqb ((n + high + low + kind + s + check) % 256) 0 h))
 
-              module _ (check : ℕ) (pc : Pair l (9 + n * 2) check) (hc : check < 256) where
-                digits-all : allDigits (drop 1 l) ≡ true
-                digits-all =
-                    digits-data ∙ pair-digits l (9 + n * 2) check pc (omega (arith, v .long)) hc ∙ allDigits-end l (9 + n * 2 + 2) (omega (arith, v .long))
+          judge-typed : (n + high + low + kind + s + check) % 256 ≡ 0 → judge room at l ≡ typed room at n (high * 256 + low) kind
+          unfolding judge placed lineOf summed
+          judge-typed h =
+              rw (
+                formed-by-digits true digits-all,
+                total-of-pairs,
+                eq-eqb ((n + high + low + kind + s + check) % 256) 0 h,
+                recordBytes-head l (omega (arith, long)),
+                ← v .counts,
+                ← pair-byte l 3 high ph hh,
+                ← pair-byte l 5 low pl hl,
+                ← pair-byte l 7 kind pk hk,
+              )
 
-                total-of-pairs : total (recordBytes l) % 256 ≡ (n + high + low + kind + s + check) % 256
-                unfolding total
-                total-of-pairs =
-                    let e = bytes-total-more l (9 + n * 2) (omega (arith, v .long)) in
-                    let z = bytes-total-end l (9 + n * 2 + 2) (omega (arith, v .long)) in
-                    rw (recordBytes-head l (omega (arith, long)))
-                    (omega (
-                      arith,
-                      v .counts,
-                      pair-byte l 3 high ph hh,
-                      pair-byte l 5 low pl hl,
-                      pair-byte l 7 kind pk hk,
-                      w .sum .good hs .sum,
-                      pair-byte l (9 + n * 2) check pc hc,
-                    ))
-
-                pub taken-bad-sum : ((n + high + low + kind + s + check) % 256 ≡ 0 → ⊥) → Taken (Fault 2) l d d′ room at
-                unfolding judge placed lineOf summed
-                taken-bad-sum h =
-                    taken-fault 2 l d d′ room at (rw (formed-by-digits true digits-all, total-of-pairs, ne-eqb ((n + high + low + kind + s + check) % 256) 0 h))
-
-                judge-typed : (n + high + low + kind + s + check) % 256 ≡ 0 → judge room at l ≡ typed room at n (high * 256 + low) kind
-                unfolding judge placed lineOf summed
-                judge-typed h =
-                    rw (
-                      formed-by-digits true digits-all,
-                      total-of-pairs,
-                      eq-eqb ((n + high + low + kind + s + check) % 256) 0 h,
-                      recordBytes-head l (omega (arith, long)),
-                      ← v .counts,
-                      ← pair-byte l 3 high ph hh,
-                      ← pair-byte l 5 low pl hl,
-                      ← pair-byte l 7 kind pk hk,
-                    )
-
-                pub taken-typed : (r : Record) → (n + high + low + kind + s + check) % 256 ≡ 0 → r ≡ typed room at n (high * 256 + low) kind
-                    → at ≤ room → room ≤ length d → Taken r l d d′ room at
-                taken-typed r h e within roomy =
-                    record {
-                      judged = e ∙ sym (judge-typed h);
-                      wrote = λ m t.
-                          let u = says-data room at l m (judge-typed h ∙ sym e ∙ t) in
-                          let same : n ≡ m = omega (arith, v .long, u .long) in
-                          rw (w .wrote (omega (arith, u .fits)) hs, same, data-from-nine l m (u .long) (u .counts))
-                          (take-paste d at (bytesOf (drop 9 l)) m (omega (arith, u .fits)) (length-bytesOf l 9 m (omega (arith, u .long))));
-                      same = λ t.
-                          let none : n ≡ 0 = end-empty room at n (high * 256 + low) kind (sym e ∙ t) in
-                          rw (w .wrote (omega arith) hs, none) (sym (paste-zero d at (bytesOf (drop 9 l))));
-                    }
+          pub taken-typed : (r : Record) → (n + high + low + kind + s + check) % 256 ≡ 0 → r ≡ typed room at n (high * 256 + low) kind
+              → at ≤ room → room ≤ length d → Taken r l d d′ room at
+          taken-typed r h e within roomy =
+              record {
+                judged = e ∙ sym (judge-typed h);
+                wrote = λ m t.
+                    let u = says-data room at l m (judge-typed h ∙ sym e ∙ t) in
+                    let same : n ≡ m = omega (arith, v .long, u .long) in
+                    rw (w .wrote (omega (arith, u .fits)) hs, same, data-from-nine l m (u .long) (u .counts))
+                    (take-paste d at (bytesOf (drop 9 l)) m (omega (arith, u .fits)) (length-bytesOf l 9 m (omega (arith, u .long))));
+                same = λ t.
+                    let none : n ≡ 0 = end-empty room at n (high * 256 + low) kind (sym e ∙ t) in
+                    rw (w .wrote (omega arith) hs, none) (sym (paste-zero d at (bytesOf (drop 9 l))));
+              }

@@ -4,6 +4,7 @@ ghost use lib.ListN.{length, take, drop};
 ghost use Rattle.hexread.specs.DigitsLaws.{Valued};
 ghost use Rattle.hexread.specs.PairsLaws.{Put, TookData};
 ghost use Rattle.hexread.specs.RecordLaws.{Counted, Taken};
+use crate::digits::NO_DIGIT;
 use crate::digits::pair;
 use hexline::digit;
 use hexline::digits_sum;
@@ -99,26 +100,18 @@ pub fn take_record(
     ensures { λ r. ⌜ Taken r (now (line .entry)) (now (image .entry)) (now (image .exit)) room at ⌝ }
 {
     let high = pair(values, line, 3);
-    if 256 <= high {
-        return Record::Fault(1);
-    }
     let low = pair(values, line, 5);
-    if 256 <= low {
-        return Record::Fault(1);
-    }
     let kind = pair(values, line, 7);
-    if 256 <= kind {
-        return Record::Fault(1);
-    }
     let data = take_data(line, count, image, at, room - at);
     if 256 <= data {
         return Record::Fault(1);
     }
     let check = pair(values, line, 9 + count * 2);
-    if 256 <= check {
+    let sum = count + high + low + kind + data + check;
+    if NO_DIGIT <= sum {
         return Record::Fault(1);
     }
-    if (count + high + low + kind + data + check) % 256 != 0 {
+    if sum % 256 != 0 {
         return Record::Fault(2);
     }
     let address = high * 256 + low;
