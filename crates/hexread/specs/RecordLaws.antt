@@ -1,13 +1,14 @@
 -- A line that is as long as its count says, judged, with its data in the image: a law for each way out.
-use mathlib.Core.Path.{_≡_, sym, _∙_}
-use mathlib.Core.Bool.{Bool, true, false, and-true}
+use mathlib.Core.Path.{_≡_, refl, sym, _∙_}
+use mathlib.Core.Bool.{Bool, true, false, cond, _&&_, and-true}
 use mathlib.Core.List.{List, _++_}
 use Prim.Native.Nat.{ℕ, _+_, _-_, _*_, _%_, _≤_, _<_}
 use native.Mathlib.Omega.{arith}
-use borrow.Author.Tests.{eq-eqb, ne-eqb}
+use borrow.Author.Tests.{eq-eqb, ne-eqb, eqb-true, eqb-false, lt-ltb, le-ltb}
+use lib.Dec.{ltb, eqb}
 use lib.ListN.{length, take, drop, getD}
 use lib.Seq.{paste-zero, take-paste}
-use Rattle.laws.specs.Cases.{split}
+use Rattle.laws.specs.Cases.{split, decide}
 use Rattle.laws.specs.Sums.{total}
 use Rattle.hextext.specs.declared.Record.{Record}
 use Rattle.hextext.specs.declared.Record.the-variants.{Data, End, Fault}
@@ -16,6 +17,50 @@ use Rattle.hextext.specs.RecordLaws.{byteAt, allDigits-end, bytes-total-more, b
 use Rattle.hexline.specs.TypedLaws.{end-empty, says-data}
 use Rattle.hexread.specs.DigitsLaws.{noDigit, Pair, pair-below, pair-byte, pair-digits, pair-none, none-after-pair}
 use Rattle.hexread.specs.PairsLaws.{TookData}
+
+-- ---- a record judged by its parts
+
+-- what keeps their sum from wrapping
+pub record Bounded (count high low kind check : ℕ) : Type 0 where
+  pub counts : count < 256
+  pub highs : high ≤ noDigit * 17
+  pub lows : low ≤ noDigit * 17
+  pub kinds : kind ≤ noDigit * 17
+  pub checks : check ≤ noDigit * 17
+
+-- digits and checksum, then the header
+unfoldable pub judgedParts : (room at count high low kind s check : ℕ) → Record
+judgedParts room at count high low kind s check =
+    cond (ltb s 256 && ltb (count + high + low + kind + s + check) noDigit)
+    (cond (eqb ((count + high + low + kind + s + check) % 256) 0) (typed room at count (high * 256 + low) kind) (Fault 2))
+    (Fault 1)
+
+module _ (room at count high low kind s check : ℕ) where
+  abbrev sum : ℕ
+  sum = count + high + low + kind + s + check
+
+  abbrev Judged : Record → Type 0
+  Judged r = r ≡ judgedParts room at count high low kind s check
+
+  pub parts-bad-data : 256 ≤ s → Judged (Fault 1)
+  unfolding judgedParts
+  parts-bad-data h = rw (le-ltb s 256 h)
+
+  module _ (h : s < 256) where
+    pub parts-bad-pair : noDigit ≤ sum → Judged (Fault 1)
+    unfolding judgedParts
+    parts-bad-pair k = rw (lt-ltb s 256 h, le-ltb sum noDigit k)
+
+    module _ (k : sum < noDigit) where
+      pub parts-bad-sum : (sum % 256 ≡ 0 → ⊥) → Judged (Fault 2)
+      unfolding judgedParts
+      parts-bad-sum e = rw (lt-ltb s 256 h, lt-ltb sum noDigit k, ne-eqb (sum % 256) 0 e)
+
+      pub parts-typed : (r : Record) → r ≡ typed room at count (high * 256 + low) kind → sum % 256 ≡ 0 → Judged r
+      unfolding judgedParts
+      parts-typed r t e = rw (lt-ltb s 256 h, lt-ltb sum noDigit k, eq-eqb (sum % 256) 0 e) t
+
+-- ---- a line
 
 -- a line with a colon and a good count n, as long as n says
 pub record Counted (l : List ℕ) (n : ℕ) : Type 0 where
@@ -66,7 +111,7 @@ module _ (l : List ℕ) (n : ℕ) (v : Counted l n) where
     no-digits e = taken-fault 1 l d d′ room at (rw (formed-by-digits false e))
 
     module _ (high low kind : ℕ) (ph : Pair l 3 high) (pl : Pair l 5 low) (pk : Pair l 7 kind) (s : ℕ) (w : TookData l n d d′ at (room - at) s) where
-      pub taken-bad-data : 256 ≤ s → Taken (Fault 1) l d d′ room at
+      taken-bad-data : 256 ≤ s → Taken (Fault 1) l d d′ room at
       taken-bad-data h =
           let after-kind = none-after-pair l 7 kind pk (omega (arith, long)) (w .sum .bad h) in
           let after-low = none-after-pair l 5 low pl (omega (arith, long)) after-kind in
@@ -74,7 +119,7 @@ module _ (l : List ℕ) (n : ℕ) (v : Counted l n) where
 
       module _ (hs : s < 256) (check : ℕ) (pc : Pair l (9 + n * 2) check) where
         -- the first pair that is no digits
-        pub taken-bad-pair : noDigit ≤ n + high + low + kind + s + check → Taken (Fault 1) l d d′ room at
+        taken-bad-pair : noDigit ≤ n + high + low + kind + s + check → Taken (Fault 1) l d d′ room at
         taken-bad-pair h =
             no-digits (v .digits ∙ split 256 high (pair-none l 3 high ph (omega (arith, long)))
             (λ hh. pair-digits l 3 high ph (omega (arith, long)) hh ∙ split 256 low (pair-none l 5 low pl (omega (arith, long)))
@@ -118,7 +163,7 @@ module _ (l : List ℕ) (n : ℕ) (v : Counted l n) where
               )
               (parts-add-up n high low kind _ s _ check (w .sum .good hs .sum) (last-byte l (9 + n * 2) check pc hc (omega (arith, v .long))))
 
-          pub taken-bad-sum : ((n + high + low + kind + s + check) % 256 ≡ 0 → ⊥) → Taken (Fault 2) l d d′ room at
+          taken-bad-sum : ((n + high + low + kind + s + check) % 256 ≡ 0 → ⊥) → Taken (Fault 2) l d d′ room at
           unfolding judge placed lineOf summed
           taken-bad-sum h =
               taken-fault 2 l d d′ room at (rw (formed-by-digits true digits-all, total-of-pairs, ne-eqb ((n + high + low + kind + s + check) % 256) 0 h))
@@ -137,7 +182,7 @@ module _ (l : List ℕ) (n : ℕ) (v : Counted l n) where
                 ← pair-byte l 7 kind pk hk,
               )
 
-          pub taken-typed : (r : Record) → (n + high + low + kind + s + check) % 256 ≡ 0 → r ≡ typed room at n (high * 256 + low) kind
+          taken-typed : (r : Record) → (n + high + low + kind + s + check) % 256 ≡ 0 → r ≡ typed room at n (high * 256 + low) kind
               → at ≤ room → room ≤ length d → Taken r l d d′ room at
           taken-typed r h e within roomy =
               record {
@@ -151,3 +196,17 @@ module _ (l : List ℕ) (n : ℕ) (v : Counted l n) where
                     let none : n ≡ 0 = end-empty room at n (high * 256 + low) kind (sym e ∙ t) in
                     rw (w .wrote (omega arith) hs, none) (sym (paste-zero d at (bytesOf (drop 9 l))));
               }
+
+      pub taken-by-parts : (check : ℕ) → Pair l (9 + n * 2) check → (r : Record) → r ≡ judgedParts room at n high low kind s check
+          → at ≤ room → room ≤ length d → Taken r l d d′ room at
+      taken-by-parts check pc r e within roomy =
+          split 256 s (λ h. rw (e, ← parts-bad-data room at n high low kind s check h) (taken-bad-data h))
+          (λ hs. split noDigit (sum room at n high low kind s check)
+          (λ h. rw (e, ← parts-bad-pair room at n high low kind s check hs h) (taken-bad-pair hs check pc h))
+          (λ below. decide (eqb (sum room at n high low kind s check % 256) 0)
+          (λ (q : eqb (sum room at n high low kind s check % 256) 0 ≡ true).
+          let z = eqb-true (sum room at n high low kind s check % 256) 0 q in
+          taken-typed hs check pc below r z (e ∙ sym (parts-typed room at n high low kind s check hs below _ refl z)) within roomy)
+          (λ (q : eqb (sum room at n high low kind s check % 256) 0 ≡ false).
+          let z = eqb-false (sum room at n high low kind s check % 256) 0 q in
+          rw (e, ← parts-bad-sum room at n high low kind s check hs below z) (taken-bad-sum hs check pc below z))))

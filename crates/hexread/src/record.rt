@@ -3,7 +3,7 @@ ghost use Prim.Native.Nat.{_+_, _*_, _≤_};
 ghost use lib.ListN.{length, take, drop};
 ghost use Rattle.hexread.specs.DigitsLaws.{Valued};
 ghost use Rattle.hexread.specs.PairsLaws.{Put, TookData};
-ghost use Rattle.hexread.specs.RecordLaws.{Counted, Taken};
+ghost use Rattle.hexread.specs.RecordLaws.{Bounded, judgedParts, Counted, Taken};
 use crate::digits::NO_DIGIT;
 use crate::digits::pair;
 use hexline::digit;
@@ -87,26 +87,23 @@ fn take_data(line: &[u8], count: usize, image: &mut [u8], to: usize, space: usiz
     digits_sum(&line[9..end])
 }
 
-// The record of a line that is as long as its count says, judged, its data in the image where they have room.
-pub fn take_record(
-    values: &[usize; 256],
-    line: &[u8],
-    count: usize,
-    image: &mut [u8],
-    at: usize,
+// A record judged by its  One test of their sum for all pairs: NO_DIGIT is above the sum of six bytes.
+fn judge_parts(
     room: usize,
+    at: usize,
+    count: usize,
+    high: usize,
+    low: usize,
+    kind: usize,
+    data: usize,
+    check: usize,
 ) -> Record
-    requires { ⌜ Valued (now values) × Counted (now line) count × (at ≤ room) × (room ≤ length (now image)) ⌝ }
-    ensures { λ r. ⌜ Taken r (now (line .entry)) (now (image .entry)) (now (image .exit)) room at ⌝ }
+    requires { ⌜ Bounded count high low kind check ⌝ }
+    ensures { λ r. ⌜ r ≡ judgedParts room at count high low kind «data» check ⌝ }
 {
-    let high = pair(values, line, 3);
-    let low = pair(values, line, 5);
-    let kind = pair(values, line, 7);
-    let data = take_data(line, count, image, at, room - at);
     if 256 <= data {
         return Record::Fault(1);
     }
-    let check = pair(values, line, 9 + count * 2);
     let sum = count + high + low + kind + data + check;
     if NO_DIGIT <= sum {
         return Record::Fault(1);
@@ -124,4 +121,24 @@ pub fn take_record(
             kind,
         },
     )
+}
+
+// The record of a line that is as long as its count says, judged, its data in the image where they have room.
+pub fn take_record(
+    values: &[usize; 256],
+    line: &[u8],
+    count: usize,
+    image: &mut [u8],
+    at: usize,
+    room: usize,
+) -> Record
+    requires { ⌜ Valued (now values) × Counted (now line) count × (at ≤ room) × (room ≤ length (now image)) ⌝ }
+    ensures { λ r. ⌜ Taken r (now (line .entry)) (now (image .entry)) (now (image .exit)) room at ⌝ }
+{
+    let high = pair(values, line, 3);
+    let low = pair(values, line, 5);
+    let kind = pair(values, line, 7);
+    let data = take_data(line, count, image, at, room - at);
+    let check = pair(values, line, 9 + count * 2);
+    judge_parts(room, at, count, high, low, kind, data, check)
 }
