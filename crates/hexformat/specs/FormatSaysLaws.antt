@@ -1,4 +1,4 @@
--- What a text comes to: from the reader's answer to the format, and back.
+-- What the reader answers is what the format says of the text, both ways.
 use mathlib.Core.Path.{_≡_, refl, _∙_}
 use mathlib.Core.Bool.{true, false}
 use mathlib.Core.List.{List, [], _∷_, _++_, append-nil, append-assoc}
@@ -76,8 +76,8 @@ format-says-from room count image before passed (c ∷ text) lines fits w =
     (format-says-from room count image before (passed ++ c ∷ []) text lines fits
     (without-append 10 passed (c ∷ []) w (without-one 10 c (omega arith) (eqb-false c 10 q)))))
 
-pub comes : (room : ℕ) (text : List ℕ) → FormatSays room text (reading room 1 [] [] text)
-comes room text = format-says-from room 0 [] [] [] text none (omega arith) (λ i e. omega arith)
+pub format-says : (room : ℕ) (text : List ℕ) → FormatSays room text (reading room 1 [] [] text)
+format-says room text = format-says-from room 0 [] [] [] text none (omega arith) (λ i e. omega arith)
 
 -- ---- from the format to the reader
 

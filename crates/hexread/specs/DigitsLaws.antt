@@ -11,7 +11,7 @@ use Rattle.laws.specs.Cases.{split}
 use Rattle.laws.specs.Tables.{every, entry}
 use Rattle.hextext.specs.Record.{digit, allDigits}
 use Rattle.hextext.specs.RecordLaws.{byteAt}
-use Rattle.hexline.specs.DigitsLaws.{Spells, spells-digits, spells-none}
+use Rattle.hexline.specs.DigitsLaws.{SpellsByte, spells-digits, spells-none}
 
 -- ---- a character
 
@@ -35,38 +35,38 @@ module _ (c : ℕ) where
   value-below h = split 16 (digit c) (λ k. omega (arith, value-no k)) (λ k. k)
 
 -- r is this value
-pub record Value (c r : ℕ) : Type 0 where
+pub record DigitValue (c r : ℕ) : Type 0 where
   pub is : r ≡ valueOf c
-  pub most : r ≤ noDigit
+  pub bound : r ≤ noDigit
 
 -- a table of these values
-pub record Valued (t : List ℕ) : Type 0 where
+pub record DigitValues (t : List ℕ) : Type 0 where
   pub at : (c : ℕ) → c < 256 → getD t c 0 ≡ valueOf c
 
 unfoldable pub isValue : ℕ → ℕ → Bool
 isValue c x = eqb x (valueOf c)
 
-pub valued-by-test : (t : List ℕ) → length t ≡ 256 → T (every isValue 0 t) → Valued t
+pub digit-values-by-test : (t : List ℕ) → length t ≡ 256 → T (every isValue 0 t) → DigitValues t
 unfolding isValue
-valued-by-test t e passed = record { at = λ c h. eqb→eq (getD t c 0) (valueOf c) (entry isValue t passed c (omega arith)) }
+digit-values-by-test t e passed = record { at = λ c h. eqb→eq (getD t c 0) (valueOf c) (entry isValue t passed c (omega arith)) }
 
-pub value-in-table : (t : List ℕ) (c r : ℕ) → Valued t → c < 256 → r ≡ getD t c 0 → Value c r
+pub value-in-table : (t : List ℕ) (c r : ℕ) → DigitValues t → c < 256 → r ≡ getD t c 0 → DigitValue c r
 value-in-table t c r v h e =
     let is = e ∙ v .at c h in
-    record { is = is; most = split 16 (digit c) (λ k. omega (arith, value-no c k)) (λ k. omega (arith, value-yes c k)) }
+    record { is = is; bound = split 16 (digit c) (λ k. omega (arith, value-no c k)) (λ k. omega (arith, value-yes c k)) }
 
 -- ---- a pair
 
 -- b is the byte that the pair at i spells, or noDigit and more where it has a character that is no digit
 pub record Pair (l : List ℕ) (i b : ℕ) : Type 0 where
   pub is : b ≡ valueOf (getD l i 0) * 16 + valueOf (getD l (i + 1) 0)
-  pub most : b ≤ noDigit * 17
+  pub bound : b ≤ noDigit * 17
 
 module _ (l : List ℕ) (i b : ℕ) (p : Pair l i b) where
   pub pair-small : digit (getD l i 0) < 16 → digit (getD l (i + 1) 0) < 16 → b < 256
   pair-small h k = omega (arith, p .is, value-yes (getD l i 0) h, value-yes (getD l (i + 1) 0) k)
 
-  pair-spells : b < noDigit → Spells l i b
+  pair-spells : b < noDigit → SpellsByte l i b
   unfolding byteAt
   pair-spells h =
       let high = value-below (getD l i 0) (omega (arith, p .is)) in

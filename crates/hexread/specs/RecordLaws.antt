@@ -14,9 +14,9 @@ use Rattle.hextext.specs.declared.Record.{Record}
 use Rattle.hextext.specs.declared.Record.the-variants.{Data, End, Fault}
 use Rattle.hextext.specs.Record.{allDigits, bytesOf, recordBytes, countOf, dataOf, formed, summed, lineOf, typed, placed, judge}
 use Rattle.hextext.specs.RecordLaws.{byteAt, allDigits-end, bytes-total-more, bytes-total-end, formed-at, recordBytes-head, length-bytesOf}
-use Rattle.hexline.specs.TypedLaws.{end-empty, says-data}
+use Rattle.hexline.specs.TypedLaws.{end-empty, good-data-record}
 use Rattle.hexread.specs.DigitsLaws.{noDigit, Pair, pair-below, pair-byte, pair-digits, pair-none, none-after-pair}
-use Rattle.hexread.specs.PairsLaws.{TookData}
+use Rattle.hexread.specs.PairsLaws.{DataTaken}
 
 -- ---- a record judged by its parts
 
@@ -71,12 +71,12 @@ pub record Counted (l : List ℕ) (n : ℕ) : Type 0 where
   pub digits : allDigits (drop 1 l) ≡ allDigits (drop 3 l)
 
 -- the judgement r of the line l, and for a data record the image d with its data at `at`, as d′
-pub record Taken (r : Record) (l d d′ : List ℕ) (room at : ℕ) : Type 0 where
+pub record RecordTaken (r : Record) (l d d′ : List ℕ) (room at : ℕ) : Type 0 where
   pub judged : r ≡ judge room at l
   pub wrote : (n : ℕ) → r ≡ Data n → take (at + n) d′ ≡ take at d ++ dataOf (recordBytes l)
   pub same : r ≡ End → d′ ≡ d
 
-taken-fault : (k : ℕ) (l d d′ : List ℕ) (room at : ℕ) → judge room at l ≡ Fault k → Taken (Fault k) l d d′ room at
+taken-fault : (k : ℕ) (l d d′ : List ℕ) (room at : ℕ) → judge room at l ≡ Fault k → RecordTaken (Fault k) l d d′ room at
 taken-fault k l d d′ room at j =
     record {
       judged = sym j;
@@ -106,12 +106,12 @@ module _ (l : List ℕ) (n : ℕ) (v : Counted l n) where
       (and-true b)
 
   module _ (d d′ : List ℕ) (room at : ℕ) where
-    no-digits : allDigits (drop 1 l) ≡ false → Taken (Fault 1) l d d′ room at
+    no-digits : allDigits (drop 1 l) ≡ false → RecordTaken (Fault 1) l d d′ room at
     unfolding judge placed lineOf
     no-digits e = taken-fault 1 l d d′ room at (rw (formed-by-digits false e))
 
-    module _ (high low kind : ℕ) (ph : Pair l 3 high) (pl : Pair l 5 low) (pk : Pair l 7 kind) (s : ℕ) (w : TookData l n d d′ at (room - at) s) where
-      taken-bad-data : 256 ≤ s → Taken (Fault 1) l d d′ room at
+    module _ (high low kind : ℕ) (ph : Pair l 3 high) (pl : Pair l 5 low) (pk : Pair l 7 kind) (s : ℕ) (w : DataTaken l n d d′ at (room - at) s) where
+      taken-bad-data : 256 ≤ s → RecordTaken (Fault 1) l d d′ room at
       taken-bad-data h =
           let after-kind = none-after-pair l 7 kind pk (omega (arith, long)) (w .sum .bad h) in
           let after-low = none-after-pair l 5 low pl (omega (arith, long)) after-kind in
@@ -119,7 +119,7 @@ module _ (l : List ℕ) (n : ℕ) (v : Counted l n) where
 
       module _ (hs : s < 256) (check : ℕ) (pc : Pair l (9 + n * 2) check) where
         -- the first pair that is no digits
-        taken-bad-pair : noDigit ≤ n + high + low + kind + s + check → Taken (Fault 1) l d d′ room at
+        taken-bad-pair : noDigit ≤ n + high + low + kind + s + check → RecordTaken (Fault 1) l d d′ room at
         taken-bad-pair h =
             no-digits (v .digits ∙ split 256 high (pair-none l 3 high ph (omega (arith, long)))
             (λ hh. pair-digits l 3 high ph (omega (arith, long)) hh ∙ split 256 low (pair-none l 5 low pl (omega (arith, long)))
@@ -163,7 +163,7 @@ module _ (l : List ℕ) (n : ℕ) (v : Counted l n) where
               )
               (parts-add-up n high low kind _ s _ check (w .sum .good hs .sum) (last-byte l (9 + n * 2) check pc hc (omega (arith, v .long))))
 
-          taken-bad-sum : ((n + high + low + kind + s + check) % 256 ≡ 0 → ⊥) → Taken (Fault 2) l d d′ room at
+          taken-bad-sum : ((n + high + low + kind + s + check) % 256 ≡ 0 → ⊥) → RecordTaken (Fault 2) l d d′ room at
           unfolding judge placed lineOf summed
           taken-bad-sum h =
               taken-fault 2 l d d′ room at (rw (formed-by-digits true digits-all, total-of-pairs, ne-eqb ((n + high + low + kind + s + check) % 256) 0 h))
@@ -183,12 +183,12 @@ module _ (l : List ℕ) (n : ℕ) (v : Counted l n) where
               )
 
           taken-typed : (r : Record) → (n + high + low + kind + s + check) % 256 ≡ 0 → r ≡ typed room at n (high * 256 + low) kind
-              → at ≤ room → room ≤ length d → Taken r l d d′ room at
+              → at ≤ room → room ≤ length d → RecordTaken r l d d′ room at
           taken-typed r h e within roomy =
               record {
                 judged = e ∙ sym (judge-typed h);
                 wrote = λ m t.
-                    let u = says-data room at l m (judge-typed h ∙ sym e ∙ t) in
+                    let u = good-data-record room at l m (judge-typed h ∙ sym e ∙ t) in
                     let same : n ≡ m = omega (arith, v .long, u .long) in
                     rw (w .wrote (omega (arith, u .fits)) hs, same, data-from-nine l m (u .long) (u .counts))
                     (take-paste d at (bytesOf (drop 9 l)) m (omega (arith, u .fits)) (length-bytesOf l 9 m (omega (arith, u .long))));
@@ -198,7 +198,7 @@ module _ (l : List ℕ) (n : ℕ) (v : Counted l n) where
               }
 
       pub taken-by-parts : (check : ℕ) → Pair l (9 + n * 2) check → (r : Record) → r ≡ judgedParts room at n high low kind s check
-          → at ≤ room → room ≤ length d → Taken r l d d′ room at
+          → at ≤ room → room ≤ length d → RecordTaken r l d d′ room at
       taken-by-parts check pc r e within roomy =
           split 256 s (λ h. rw (e, ← parts-bad-data room at n high low kind s check h) (taken-bad-data h))
           (λ hs. split noDigit (sum room at n high low kind s check)

@@ -14,7 +14,7 @@ use Rattle.refusals.specs.RefusalsLaws.{Begins}
 use Rattle.hextext.specs.Text.{reading, readText}
 use Rattle.hexread.specs.declared.line.Step.{Step}
 use Rattle.hexread.specs.declared.line.Step.the-variants.{More, Last, Stop}
-use Rattle.hexread.specs.LineLaws.{Stepped}
+use Rattle.hexread.specs.LineLaws.{FirstLineRead}
 
 -- the text from i on, as `&text[i..]` is said
 abbrev rest-of : List ℕ → ℕ → List ℕ
@@ -45,8 +45,8 @@ module _ (t d₀ : List ℕ) (room : ℕ) (d : List ℕ) (start size line : ℕ)
   unfolding reading
   reading-stops k = begins-refused (readText (length d₀) t) 1 line d (rw (h .reads, drop-of-length-le t k))
 
-  module _ (r : Step) (d′ : List ℕ) (same-length : length d′ ≡ length d) (s : Stepped r (rest-of t start) d d′ room size) where
-    step : Stepped r (drop start t) d d′ room size
+  module _ (r : Step) (d′ : List ℕ) (same-length : length d′ ≡ length d) (s : FirstLineRead r (rest-of t start) d d′ room size) where
+    step : FirstLineRead r (drop start t) d d′ room size
     step = rw (take-all (length t - start) (drop start t) (le-of-eq (length-drop start t))) at s
 
     left : length (drop start t) ≡ length t - start

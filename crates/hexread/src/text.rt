@@ -1,3 +1,4 @@
+// The whole text, line by line.
 ghost use mathlib.Core.Path.{_≡_};
 ghost use Prim.Native.Nat.{min};
 ghost use lib.ListN.{length};
@@ -8,6 +9,7 @@ ghost use Rattle.hextext.specs.Text.{readText};
 use crate::digits::values;
 use crate::line::Step;
 use crate::line::first_line;
+use limits::LARGEST_IMAGE;
 use refusals::Filled;
 use refusals::Refusal;
 
@@ -15,7 +17,11 @@ use refusals::Refusal;
 fn room_in(size: usize) -> usize
     ensures { λ r. ⌜ r ≡ min 4096 size ⌝ }
 {
-    if size < 4096 { size } else { 4096 }
+    if size < LARGEST_IMAGE {
+        size
+    } else {
+        LARGEST_IMAGE
+    }
 }
 
 fn refused(number: u32, line: u64) -> Filled
