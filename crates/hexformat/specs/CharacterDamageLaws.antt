@@ -80,7 +80,8 @@ same-judged room at l m f g e = rw (f, g, e)
 -- p and q are what was passed of the line in each text; wherever the line ends, they say the same
 module _
     {X : Type 0} (p q : List ℕ)
-    (alike-from : (v : List ℕ) → GoodRecord (bare (p ++ v)) → GoodRecord (bare (q ++ v)) → X × (recordBytes (bare (p ++ v)) ≡ recordBytes (bare (q ++ v)))) where
+    (alike-from : (v : List ℕ) → GoodRecord (bare (p ++ v)) → GoodRecord (bare (q ++ v))
+    → X × (recordBytes (bare (p ++ v)) ≡ recordBytes (bare (q ++ v)))) where
   in-line : (room line : ℕ) (image v text y z : List ℕ) → reading room line image (p ++ v) text ≡ result y
       → reading room line image (q ++ v) text ≡ result z → X × (z ≡ y)
   unfolding reading
@@ -95,7 +96,10 @@ module _
       let k = alike-from v s s′ in
       let j : judge room (length image) m ≡ judge room (length image) l = same-judged room (length image) l m (s .well-formed) (s′ .well-formed) (k .1) in
       (k .0, same-result (sym (rw (t, j, ← (k .1)) at f) ∙ rw t at e)))
-      (λ (t : eqb a 10 ≡ false). in-line room line image (v ++ a ∷ []) text y z (rw (t, append-assoc p v (a ∷ [])) at e) (rw (t, append-assoc q v (a ∷ [])) at f))
+      (λ (t : eqb a 10 ≡ false).
+      let e′ = rw (t, append-assoc p v (a ∷ [])) at e in
+      let f′ = rw (t, append-assoc q v (a ∷ [])) at f in
+      in-line room line image (v ++ a ∷ []) text y z e′ f′)
 
 module _ (room b c : ℕ) (differ : b ≡ c → ⊥) where
   at-place : (rest y z : List ℕ) → UpToDifference room (b ∷ rest) (c ∷ rest) y z → SameDigit b c × (z ≡ y)
@@ -247,7 +251,9 @@ module _ (room line : ℕ) (image : List ℕ) (c : ℕ) where
       (λ (q : eqb a 10 ≡ true).
       let e′ : ended room line image (u ++ v) text ≡ result y = rw q at e in
       let f′ : ended room line image (u ++ c ∷ v) text ≡ result z = rw q at f in
-      rw (eqb-true a 10 q) (more-ends u v text y z e′ f′ (read-line-good room line image (u ++ v) text y e′) (read-line-good room line image (u ++ c ∷ v) text z f′)))
+      let good = read-line-good room line image (u ++ v) text y e′ in
+      let good′ = read-line-good room line image (u ++ c ∷ v) text z f′ in
+      rw (eqb-true a 10 q) (more-ends u v text y z e′ f′ good good′))
       (λ (q : eqb a 10 ≡ false).
       rw (append-assoc v (a ∷ []) text) at
       (more-in-line u (v ++ a ∷ []) text y z (rw (q, append-assoc u v (a ∷ [])) at e) (rw (q, append-assoc u (c ∷ v) (a ∷ [])) at f)))

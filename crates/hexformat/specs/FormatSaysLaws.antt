@@ -90,7 +90,9 @@ module _ (room line : ℕ) (image text : List ℕ) {l : List ℕ} where
     pub read-data : IsData (length image) r → length image + length (r .contents) ≤ room
         → reading room line image [] (l ++ text) ≡ reading room (line + 1) (image ++ r .contents) [] text
     unfolding after
-    read-data d h = reading-form room line image text f (Data (length (r .contents))) (judge-balanced r (f .spelled) room (length image) z ∙ typed-data d room h)
+    read-data d h =
+        let typed-as = judge-balanced r (f .spelled) room (length image) z in
+        reading-form room line image text f (Data (length (r .contents))) (typed-as ∙ typed-data d room h)
 
     pub read-end : IsEnd r
         → reading room line image [] (l ++ text) ≡ after End line image text (reading room (line + 1) (image ++ r .contents) [] text)

@@ -101,7 +101,8 @@ line-counted u n next c p h f z =
     }
 
 module _ (u d d′ : List ℕ) (room at n next : ℕ) (r : Record) (c : getD u 0 0 ≡ 58) (p : Pair u 1 n) (h : n < 256)
-    (f : next ≡ nextLine u (11 + n * 2)) (z : next ≡ 0 → ⊥) (within : at ≤ room) (roomy : room ≤ length d) (t : RecordTaken r (countedLine u n) d d′ room at) where
+    (f : next ≡ nextLine u (11 + n * 2)) (z : next ≡ 0 → ⊥) (within : at ≤ room) (roomy : room ≤ length d)
+    (t : RecordTaken r (countedLine u n) d d′ room at) where
   ends : Ends u (11 + n * 2) next
   ends = ends-found u (11 + n * 2) next f z
 

@@ -8,6 +8,7 @@ use lib.ListN.{length, take, drop, drop-of-length-le, length-drop}
 use lib.Seq.{drop-drop, length-take-le, take-all}
 use mir.Val.{Fits}
 use mir.Syntax.{w64}
+use Rattle.limits.specs.Limits.{largestImage}
 use Rattle.refusals.specs.declared.Filled.the-variants.{Length, Refused}
 use Rattle.refusals.specs.Refusals.{Outcome, result, refused, refusal}
 use Rattle.refusals.specs.RefusalsLaws.{Begins}
@@ -25,11 +26,11 @@ pub record Reading (t d₀ : List ℕ) (room : ℕ) (d : List ℕ) (start size l
   pub within : start ≤ length t
   pub lines : line ≤ start + 1
   pub sized : size ≤ room
-  pub roomy : room ≡ min 4096 (length d₀)
+  pub roomy : room ≡ min largestImage (length d₀)
   pub kept : length d ≡ length d₀
   pub reads : readText (length d₀) t ≡ reading room line (take size d) [] (drop start t)
 
-pub reading-first : (t d : List ℕ) (room : ℕ) → room ≡ min 4096 (length d) → Reading t d room d 0 0 1
+pub reading-first : (t d : List ℕ) (room : ℕ) → room ≡ min largestImage (length d) → Reading t d room d 0 0 1
 unfolding readText
 reading-first t d room e = record { within = omega arith; lines = omega arith; sized = omega arith; roomy = e; kept = refl; reads = rw e }
 

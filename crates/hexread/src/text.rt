@@ -2,6 +2,7 @@
 ghost use mathlib.Core.Path.{_≡_};
 ghost use Prim.Native.Nat.{min};
 ghost use lib.ListN.{length};
+ghost use Rattle.limits.specs.Limits.{largestImage};
 ghost use Rattle.refusals.specs.declared.Filled.the-variants.{Refused};
 ghost use Rattle.refusals.specs.Refusals.{refusal};
 ghost use Rattle.refusals.specs.RefusalsLaws.{Begins};
@@ -15,7 +16,7 @@ use refusals::Refusal;
 
 // The room that a buffer of `size` bytes gives an image.
 fn room_in(size: usize) -> usize
-    ensures { λ r. ⌜ r ≡ min 4096 size ⌝ }
+    ensures { λ r. ⌜ r ≡ min largestImage size ⌝ }
 {
     if size < LARGEST_IMAGE {
         size

@@ -2,6 +2,7 @@
 ghost use mathlib.Core.Path.{_≡_};
 ghost use Prim.Native.Nat.{_+_, _*_, _<_, _≤_};
 ghost use lib.ListN.{length, take};
+ghost use Rattle.limits.specs.Limits.{largestImage};
 ghost use Rattle.refusals.specs.RefusalsLaws.{Begins};
 ghost use Rattle.hextext.specs.Written.{textOf, textLength, writeImage};
 ghost use Rattle.hexwrite.specs.DigitsLaws.{Digits};
@@ -22,7 +23,7 @@ const FULL_RECORD_LENGTH: usize = EMPTY_RECORD_LENGTH + FULL_RECORD * 2;
 
 // How many characters the text of `count` bytes has.
 fn text_length(count: usize) -> usize
-    requires { ⌜ count ≤ 4096 ⌝ }
+    requires { ⌜ count ≤ largestImage ⌝ }
     ensures { λ r. ⌜ r ≡ textLength count ⌝ }
 {
     if count % FULL_RECORD == 0 {
@@ -36,7 +37,7 @@ fn text_length(count: usize) -> usize
 
 // Writes the text of an image that has room for it.
 fn put_records(digits: &[u8; 16], image: &[u8], text: &mut [u8])
-    requires { ⌜ Digits (now digits) 16 × (length (now image) ≤ 4096) × (textLength (length (now image)) ≤ length (now text)) ⌝ }
+    requires { ⌜ Digits (now digits) 16 × (length (now image) ≤ largestImage) × (textLength (length (now image)) ≤ length (now text)) ⌝ }
     ensures { λ _. ⌜ take (textLength (length (now (image .entry)))) (now (text .exit)) ≡ textOf (now (image .entry)) ⌝ }
 {
     let mut start: usize = 0;
