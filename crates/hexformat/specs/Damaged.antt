@@ -12,8 +12,8 @@ use Rattle.hexformat.specs.Faults.{WholeLine}
 use Rattle.hexformat.specs.Damage.{IsRefused, SameDigit, SpareReturn, WholeLines, LastData}
 use Rattle.hexformat.specs.SpelledLaws.{digit-value}
 use Rattle.hexformat.specs.Agrees.{read-exactly}
-use Rattle.hexformat.specs.CharacterLaws.{one-apart, exchanged-apart, one-longer, no-beginning}
-use Rattle.hexformat.specs.LineLaws.{one-lost, one-doubled, two-exchanged}
+use Rattle.hexformat.specs.CharacterDamageLaws.{one-apart, exchanged-apart, one-longer, no-beginning}
+use Rattle.hexformat.specs.LineDamageLaws.{one-lost, one-doubled, two-exchanged}
 
 -- ---- a text is refused, or what holds of the images that it is a good text of holds of what it is read as
 

@@ -167,7 +167,8 @@ refuses-no-data =
 pub refuses-room : readText 1 (characters ":020000005101AC\n:00000001FF\n") ≡ refused (refusal 4 1)
 unfolding total
 refuses-room =
-    refused-exactly 1 text 4 1 .1 (breaks (characters ":00000001FF\n") refl none (omega arith) (form-whole data-form) (noRoom data-form refl is-data (omega arith)))
+    let line = form-whole data-form in
+    refused-exactly 1 text 4 1 .1 (breaks (characters ":00000001FF\n") refl none (omega arith) line (noRoom data-form refl is-data (omega arith)))
 
 -- ---- hypotheses that can be met, theorem by theorem
 

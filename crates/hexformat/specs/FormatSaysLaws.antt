@@ -1,4 +1,4 @@
--- What a text comes to: from the reader's answer to the format, and back.
+-- What the reader answers is what the format says of the text, both ways.
 use mathlib.Core.Path.{_≡_, refl, _∙_}
 use mathlib.Core.Bool.{true, false}
 use mathlib.Core.List.{List, [], _∷_, _++_, append-nil, append-assoc}
@@ -76,8 +76,8 @@ format-says-from room count image before passed (c ∷ text) lines fits w =
     (format-says-from room count image before (passed ++ c ∷ []) text lines fits
     (without-append 10 passed (c ∷ []) w (without-one 10 c (omega arith) (eqb-false c 10 q)))))
 
-pub comes : (room : ℕ) (text : List ℕ) → FormatSays room text (reading room 1 [] [] text)
-comes room text = format-says-from room 0 [] [] [] text none (omega arith) (λ i e. omega arith)
+pub format-says : (room : ℕ) (text : List ℕ) → FormatSays room text (reading room 1 [] [] text)
+format-says room text = format-says-from room 0 [] [] [] text none (omega arith) (λ i e. omega arith)
 
 -- ---- from the format to the reader
 
@@ -90,7 +90,9 @@ module _ (room line : ℕ) (image text : List ℕ) {l : List ℕ} where
     pub read-data : IsData (length image) r → length image + length (r .contents) ≤ room
         → reading room line image [] (l ++ text) ≡ reading room (line + 1) (image ++ r .contents) [] text
     unfolding after
-    read-data d h = reading-form room line image text f (Data (length (r .contents))) (judge-balanced r (f .spelled) room (length image) z ∙ typed-data d room h)
+    read-data d h =
+        let typed-as = judge-balanced r (f .spelled) room (length image) z in
+        reading-form room line image text f (Data (length (r .contents))) (typed-as ∙ typed-data d room h)
 
     pub read-end : IsEnd r
         → reading room line image [] (l ++ text) ≡ after End line image text (reading room (line + 1) (image ++ r .contents) [] text)

@@ -102,7 +102,8 @@ fields-bytes (n ∷ a ∷ c ∷ t ∷ l) e h =
     let low : (a * 256 + c) % 256 ≡ c = omega arith in
     rw (length-take-le n l (omega arith), q, high, low) (ap (λ (m : List ℕ). n ∷ a ∷ c ∷ t ∷ m) (sym (snoc l n k)))
 
-record Seen (l : List ℕ) : Type 0 where
+-- a colon, and the digits that spell a record's bytes
+record SpelledRecord (l : List ℕ) : Type 0 where
   fields : Fields
   digits : List ℕ
   is : l ≡ 58 ∷ digits
@@ -114,10 +115,10 @@ length-pairs [] n e = omega arith
 length-pairs (a ∷ []) n e = absurd (omega arith)
 length-pairs (a ∷ b ∷ l) n e = omega (arith, length-pairs l (n - 1) (omega arith))
 
-formed-seen : (l : List ℕ) → formed l ≡ true → Seen l
+spelled-record : (l : List ℕ) → formed l ≡ true → SpelledRecord l
 unfolding recordBytes
-formed-seen [] e = absurd (omega (arith, formed-long [] e))
-formed-seen (c ∷ l) e =
+spelled-record [] e = absurd (omega (arith, formed-long [] e))
+spelled-record (c ∷ l) e =
     let n : ℕ = countOf (bytesOf l) + 5 in
     let long : length l ≡ n * 2 = omega (arith, formed-length (c ∷ l) e) in
     let s : Spelled (bytesOf l) l = spelled-of l n (formed-digits (c ∷ l) e) long in
@@ -130,14 +131,15 @@ formed-seen (c ∷ l) e =
 
 -- ---- a line with its line end
 
-record Cut (l : List ℕ) : Type 0 where
+-- a line without its LF is its bare characters and, where it has one, the CR
+record WithLineEnd (l : List ℕ) : Type 0 where
   rest : List ℕ
   is : l ≡ bare l ++ rest
   ends : LineEnd (rest ++ 10 ∷ [])
 
-cut : (l : List ℕ) → Cut l
+with-line-end : (l : List ℕ) → WithLineEnd l
 unfolding bare
-cut l =
+with-line-end l =
     decide (eqb (getD l (length l - 1) 0) 13)
     (λ (q : eqb (getD l (length l - 1) 0) 13 ≡ true). record { rest = 13 ∷ []; is = rw q (with-return l (eqb-true _ 13 q)); ends = crlf })
     (λ (q : eqb (getD l (length l - 1) 0) 13 ≡ false). record { rest = []; is = rw q (sym (append-nil l)); ends = lf })
@@ -147,9 +149,9 @@ cut l =
     with-return (a ∷ l) e = snoc (a ∷ l) (length (a ∷ l) - 1) (omega arith) ∙ ap (λ (c : ℕ). take (length (a ∷ l) - 1) (a ∷ l) ++ c ∷ []) e
 
 -- a formed line is in the form of a record
-form-of : (l : List ℕ) (s : Seen (bare l)) → Form (s .fields) (l ++ 10 ∷ [])
+form-of : (l : List ℕ) (s : SpelledRecord (bare l)) → Form (s .fields) (l ++ 10 ∷ [])
 form-of l s =
-    let k = cut l in
+    let k = with-line-end l in
     record {
       digits = s .digits;
       ending = k .rest ++ 10 ∷ [];
@@ -204,7 +206,7 @@ module _ (room : ℕ) (image l : List ℕ) where
   balanced-judged r f z t (isEnd d) = rw (typed-end d room at) (end f z d)
   balanced-judged r f z t (isNeither v w e) = rw (e room) (fault (neither f z v w))
 
-  formed-judged : Seen (bare l) → Tells (judge room at (bare l))
+  formed-judged : SpelledRecord (bare l) → Tells (judge room at (bare l))
   unfolding recordBytes
   formed-judged s =
       let r : Fields = s .fields in
@@ -224,11 +226,11 @@ module _ (room : ℕ) (image l : List ℕ) where
   pub judged : Tells (judge room at (bare l))
   judged =
       decide (formed (bare l))
-      (λ q. formed-judged (formed-seen (bare l) q))
+      (λ q. formed-judged (spelled-record (bare l) q))
       (λ q. rw (judge-unformed room at (bare l) q) (fault (noForm (λ r f. never (sym q ∙ form-formed l r f)))))
 
   pub judge-noForm : ((r : Fields) → Form r (l ++ 10 ∷ []) → ⊥) → judge room at (bare l) ≡ Fault 1
   judge-noForm v =
       decide (formed (bare l))
-      (λ q. let s = formed-seen (bare l) q in absurd (v (s .fields) (form-of l s)))
+      (λ q. let s = spelled-record (bare l) q in absurd (v (s .fields) (form-of l s)))
       (λ q. judge-unformed room at (bare l) q)

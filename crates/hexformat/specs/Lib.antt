@@ -15,7 +15,7 @@ pub mod FormatSaysLaws
 pub mod WrittenLaws
 pub mod WritingLaws
 pub mod SumLaws
-pub mod PartLaws
-pub mod CharacterLaws
-pub mod LineLaws
+pub mod DifferenceLaws
+pub mod CharacterDamageLaws
+pub mod LineDamageLaws
 pub mod ComputedBytes

@@ -8,6 +8,7 @@ use borrow.Author.Tests.{leb-true, le-leb}
 use lib.Dec.{leb}
 use lib.ListN.{length, take, replicate}
 use lib.Seq.{take-at}
+use Rattle.limits.specs.Limits.{largestImage}
 use Rattle.laws.specs.Bytes.{Bytes}
 use Rattle.laws.specs.Cases.{decide}
 use Rattle.refusals.specs.declared.Filled.{Filled}
@@ -23,12 +24,12 @@ use Rattle.hexformat.specs.WrittenLaws.{writing-good}
 
 module _ (image : List ℕ) (are-bytes : Bytes image) where
   -- what is written of an image is a good text of it
-  pub written-is-good : length image ≤ 4096 → GoodText image (textOf image)
+  pub written-is-good : length image ≤ largestImage → GoodText image (textOf image)
   unfolding textOf
   written-is-good h = writing-good (length image) image none are-bytes (omega arith) (omega arith)
 
   -- what is written of an image reads back as the same image
-  pub written-reads-back : (size : ℕ) → length image ≤ 4096 → length image ≤ size → readText size (textOf image) ≡ result image
+  pub written-reads-back : (size : ℕ) → length image ≤ largestImage → length image ≤ size → readText size (textOf image) ≡ result image
   written-reads-back size h k = read-exactly size (textOf image) image .1 (written-is-good h, omega arith)
 
 -- what is read of any text, and written anew, reads back as the same image
@@ -39,33 +40,33 @@ read-reads-back size text image e =
     written-reads-back image (image-is-bytes image text (good .0)) size (omega arith) (omega arith)
 
 -- an image of 4,096 bytes or less whose text has room is written
-pub is-written : (size : ℕ) (image : List ℕ) → length image ≤ 4096 → textLength (length image) ≤ size → writeImage size image ≡ result (textOf image)
+pub is-written : (size : ℕ) (image : List ℕ) → length image ≤ largestImage → textLength (length image) ≤ size → writeImage size image ≡ result (textOf image)
 unfolding writeImage
-is-written size image h k = rw (le-leb (length image) 4096 h, le-leb (textLength (length image)) size k)
+is-written size image h k = rw (le-leb (length image) largestImage h, le-leb (textLength (length image)) size k)
 
 -- ---- the two contracts together
 
 record Wrote (image before after : List ℕ) (n : ℕ) : Type 0 where
-  small : length image ≤ 4096
+  small : length image ≤ largestImage
   begins : take n after ≡ textOf image
 
 wrote : (image before after : List ℕ) (n : ℕ) → Fills (writeImage (length before) image) before (Length n) after → Wrote image before after n
 unfolding writeImage
 wrote image before after n fills =
-    decide (leb (length image) 4096)
-    (λ (p : leb (length image) 4096 ≡ true).
+    decide (leb (length image) largestImage)
+    (λ (p : leb (length image) largestImage ≡ true).
     decide (leb (textLength (length image)) (length before))
     (λ (q : leb (textLength (length image)) (length before) ≡ true).
     let e : Length n ≡ Length (length (textOf image)) = rw (p, q) at (fills .answers) in
     let m : length (textOf image) ≡ n = cc in
     let a : after ≡ textOf image ++ replicate (length before - length (textOf image)) 0 = rw (p, q) at (fills .holds) in
     record {
-      small = leb-true (length image) 4096 p;
+      small = leb-true (length image) largestImage p;
       begins = rw a (take-at (textOf image) (replicate (length before - length (textOf image)) 0) n m);
     })
     (λ (q : leb (textLength (length image)) (length before) ≡ false).
     let z : _≡_ {A = ℕ} 0 1 = cc (rw (p, q) at (fills .answers)) in absurd (omega arith)))
-    (λ (p : leb (length image) 4096 ≡ false). let z : _≡_ {A = ℕ} 0 1 = cc (rw p at (fills .answers)) in absurd (omega arith))
+    (λ (p : leb (length image) largestImage ≡ false). let z : _≡_ {A = ℕ} 0 1 = cc (rw p at (fills .answers)) in absurd (omega arith))
 
 -- whatever writing and then reading may answer by their contracts, it is the same image again:
 -- where the writer answers n characters and the reader reads those into a buffer that the image fits, the answer is the image's length, and the buffer

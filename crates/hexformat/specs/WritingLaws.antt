@@ -8,6 +8,7 @@ use native.Mathlib.Nat.{le-of-lt}
 use borrow.Author.Tests.{lt-ltb, le-ltb}
 use lib.ListN.{length, take, drop, length-append, length-take, length-drop, take-append-drop, drop-of-length-le}
 use lib.Seq.{take-all, take-at, drop-at, getD-append-seam}
+use Rattle.limits.specs.Limits.{largestImage}
 use Rattle.laws.specs.Bytes.{Bytes}
 use Rattle.laws.specs.BytesLaws.{bytes-take, bytes-drop}
 use Rattle.laws.specs.Cases.{split}
@@ -129,7 +130,7 @@ written-so (suc most) address (c ∷ z) b room h =
     rw (drop-of-length-le y (le-of-lt m), writing-nothing most (address + 16), end-written, whole) (rw whole at (last l d (omega arith))))
 
 -- `textOf` is the text that the writer is to make of an image, and no other text is
-pub written-exactly : (image text : List ℕ) → Bytes image → length image ≤ 4096 → (text ≡ textOf image) ↔ Written image text
+pub written-exactly : (image text : List ℕ) → Bytes image → length image ≤ largestImage → (text ≡ textOf image) ↔ Written image text
 unfolding textOf
 written-exactly image text b h = (
   λ e. rw e (written-so (length image) 0 image b (omega arith) (omega arith)),

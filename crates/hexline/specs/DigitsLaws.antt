@@ -44,13 +44,13 @@ module _ (c : ℕ) where
 -- ---- a pair
 
 -- the pair at i is of digits, and spells the byte b
-pub record Spells (l : List ℕ) (i b : ℕ) : Type 0 where
+pub record SpellsByte (l : List ℕ) (i b : ℕ) : Type 0 where
   pub high : digit (getD l i 0) < 16
   pub low : digit (getD l (i + 1) 0) < 16
   pub is : b ≡ byteAt l i
 
 module _ (l : List ℕ) (i : ℕ) (h : i + 1 < length l) where
-  pub spells-digits : {b : ℕ} → Spells l i b → allDigits (drop i l) ≡ allDigits (drop (i + 2) l)
+  pub spells-digits : {b : ℕ} → SpellsByte l i b → allDigits (drop i l) ≡ allDigits (drop (i + 2) l)
   spells-digits p =
       let e : i + 1 + 1 ≡ i + 2 = omega arith in
       allDigits-yes l i (omega arith) (p .high) ∙ allDigits-yes l (i + 1) h (p .low) ∙ ap (λ (j : ℕ). allDigits (drop j l)) e
@@ -63,7 +63,7 @@ module _ (l : List ℕ) (i : ℕ) (h : i + 1 < length l) where
 
 -- by its two values
 module _ (l : List ℕ) (i high low : ℕ) (p : high ≡ digit (getD l i 0)) (q : low ≡ digit (getD l (i + 1) 0)) where
-  pub digits-spell : max high low < 16 → Spells l i (high % 16 * 16 + low % 16)
+  pub digits-spell : max high low < 16 → SpellsByte l i (high % 16 * 16 + low % 16)
   unfolding byteAt
   digits-spell h = record { high = omega arith; low = omega arith; is = omega arith }
 

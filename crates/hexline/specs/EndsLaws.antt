@@ -16,15 +16,15 @@ use Rattle.hexline.specs.Line.{nextLine}
 -- ---- a line's length
 
 -- none of the first i characters is an LF
-pub record Before (t : List ℕ) (i : ℕ) : Type 0 where
+pub record NoLineFeedBefore (t : List ℕ) (i : ℕ) : Type 0 where
   pub within : i ≤ length t
   pub is : lineLength t ≡ i + lineLength (drop i t)
 
-pub before-first : (t : List ℕ) → Before t 0
+pub before-first : (t : List ℕ) → NoLineFeedBefore t 0
 before-first t = record { within = omega arith; is = omega arith }
 
-module _ (t : List ℕ) (i : ℕ) (h : Before t i) where
-  pub before-more : i < length t → (getD t i 0 ≡ 10 → ⊥) → Before t (i + 1)
+module _ (t : List ℕ) (i : ℕ) (h : NoLineFeedBefore t i) where
+  pub before-more : i < length t → (getD t i 0 ≡ 10 → ⊥) → NoLineFeedBefore t (i + 1)
   before-more k e = record { within = omega arith; is = omega (arith, h .is, lineLength-more t i e k) }
 
   pub before-lf : i < length t → getD t i 0 ≡ 10 → i ≡ lineLength t

@@ -1,6 +1,6 @@
 pub mod Line
 pub mod DigitsLaws
 pub mod PairsLaws
-pub mod LineLaws
+pub mod JudgeLaws
 pub mod TypedLaws
 pub mod EndsLaws

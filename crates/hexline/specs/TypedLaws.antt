@@ -80,7 +80,7 @@ end-empty room at count address kind e =
     eqb-true count 0 (both-left (eqb count 0) (eqb address 0) (both-right (eqb kind 1) (eqb count 0 && eqb address 0) b))
 
 -- a data record is formed, and its data have room
-pub record SaysData (room at : ℕ) (l : List ℕ) (n : ℕ) : Type 0 where
+pub record GoodDataRecord (room at : ℕ) (l : List ℕ) (n : ℕ) : Type 0 where
   pub good : formed l ≡ true
   pub counts : countOf (recordBytes l) ≡ n
   pub fits : at + n ≤ room
@@ -91,9 +91,9 @@ unfolding placed
 unless-bad room at true x k n e = (refl, e)
 unless-bad room at false x k n e = let z : _≡_ {A = ℕ} 0 1 = cc in absurd (omega arith)
 
-pub says-data : (room at : ℕ) (l : List ℕ) (n : ℕ) → judge room at l ≡ Data n → SaysData room at l n
+pub good-data-record : (room at : ℕ) (l : List ℕ) (n : ℕ) → judge room at l ≡ Data n → GoodDataRecord room at l n
 unfolding judge placed lineOf typed
-says-data room at l n e =
+good-data-record room at l n e =
     let bytes : List ℕ = recordBytes l in
     let p = unless-bad room at (formed l) _ 1 n e in
     let q = unless-bad room at (summed bytes) _ 2 n (p .1) in

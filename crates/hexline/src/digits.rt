@@ -1,3 +1,4 @@
+// Characters as hexadecimal digits, and the sum of the bytes that they spell.
 ghost use mathlib.Core.Path.{_≡_};
 ghost use mathlib.Core.Bool.{_&&_};
 ghost use Prim.Native.Nat.{max};
@@ -50,16 +51,16 @@ pub fn digits_sum(characters: &[u8]) -> usize
     }
     let count = characters.len() / 2;
     let mut sum: u8 = 0;
-    let mut worst: u8 = 0;
+    let mut largest: u8 = 0;
     let mut i: usize = 0;
     while i < count {
         let high = digit(characters[i * 2]);
         let low = digit(characters[i * 2 + 1]);
         sum = std::num::wrapping_add_u8(sum, high % 16 * 16 + low % 16);
-        worst = greatest(worst, high, low);
+        largest = greatest(largest, high, low);
         i += 1;
     }
-    if 16 <= worst {
+    if 16 <= largest {
         return 256;
     }
     sum as usize

@@ -1,3 +1,4 @@
+// Where lines end.
 ghost use mathlib.Core.Path.{_≡_};
 ghost use lib.ListN.{length};
 ghost use Rattle.hextext.specs.Text.{lineLength, bare};

@@ -3,8 +3,8 @@
 // Characters as hexadecimal digits.
 mod digits;
 
-// A line's record.
-mod line;
+// A line judged as a record.
+mod judge;
 
 // Where lines end.
 mod ends;
@@ -15,6 +15,6 @@ pub use digits::greatest;
 pub use ends::bare_length;
 pub use ends::line_length;
 pub use ends::next_line;
-pub use line::data_byte;
-pub use line::judge_header;
-pub use line::judge_line;
+pub use judge::data_byte;
+pub use judge::judge_header;
+pub use judge::judge_line;

@@ -15,23 +15,23 @@ use Rattle.laws.specs.SumsLaws.{total-append}
 use Rattle.hextext.specs.Record.{digit, allDigits, bytesOf}
 use Rattle.hextext.specs.RecordLaws.{length-bytesOf}
 use Rattle.hexline.specs.Line.{digitsSum}
-use Rattle.hexline.specs.PairsLaws.{Passed}
-use Rattle.hexread.specs.PairsLaws.{Summed, summed-none, summed-all, Put, TookData}
+use Rattle.hexline.specs.PairsLaws.{PairsAddUp}
+use Rattle.hexread.specs.PairsLaws.{SumOfPairs, sum-of-no-digits, sum-of-digits, PairsWritten, DataTaken}
 
 -- ---- the characters copied
 
 -- the first i of the 32 from a place on
-pub record Taking (l : List ℕ) (from : ℕ) (b : List ℕ) (i : ℕ) : Type 0 where
+pub record CharactersCopied (l : List ℕ) (from : ℕ) (b : List ℕ) (i : ℕ) : Type 0 where
   pub within : i ≤ 32
   pub long : length b ≡ 32
   pub same : take i b ≡ take i (drop from l)
 
-pub taking-first : (l : List ℕ) (from : ℕ) (b : List ℕ) → length b ≡ 32 → Taking l from b 0
-taking-first l from b h = record { within = omega arith; long = h; same = refl }
+pub copied-first : (l : List ℕ) (from : ℕ) (b : List ℕ) → length b ≡ 32 → CharactersCopied l from b 0
+copied-first l from b h = record { within = omega arith; long = h; same = refl }
 
-module _ (l : List ℕ) (from : ℕ) (b : List ℕ) (i : ℕ) (h : Taking l from b i) where
-  pub taking-more : i < 32 → from + 32 ≤ length l → Taking l from (set b i (getD l (from + i) 0)) (i + 1)
-  taking-more k room =
+module _ (l : List ℕ) (from : ℕ) (b : List ℕ) (i : ℕ) (h : CharactersCopied l from b i) where
+  pub copied-more : i < 32 → from + 32 ≤ length l → CharactersCopied l from (set b i (getD l (from + i) 0)) (i + 1)
+  copied-more k room =
       record {
         within = omega arith;
         long = length-set b i (getD l (from + i) 0) ∙ h .long;
@@ -44,8 +44,8 @@ module _ (l : List ℕ) (from : ℕ) (b : List ℕ) (i : ℕ) (h : Taking l from
         );
       }
 
-  pub taking-end : 32 ≤ i → b ≡ take 32 (drop from l)
-  taking-end k =
+  pub copied-end : 32 ≤ i → b ≡ take 32 (drop from l)
+  copied-end k =
       let e : i ≡ 32 = omega (arith, h .within) in
       let whole : take 32 b ≡ b = take-all 32 b (omega (arith, h .long)) in
       sym whole ∙ rw e at (h .same)
@@ -79,7 +79,7 @@ module _ (l : List ℕ) (from n : ℕ) (b : List ℕ) (block : b ≡ take (n * 2
   none-left : drop (0 + n * 2) b ≡ []
   none-left = drop-of-length-le b {i = 0 + n * 2} (omega (arith, size))
 
-  module _ (r : ℕ) (q : Passed b 0 n r) where
+  module _ (r : ℕ) (q : PairsAddUp b 0 n r) where
     all-digits : allDigits b ≡ true
     unfolding allDigits
     all-digits = q .digits ∙ rw none-left
@@ -88,42 +88,42 @@ module _ (l : List ℕ) (from n : ℕ) (b : List ℕ) (block : b ≡ take (n * 2
     unfolding bytesOf total
     sums = let e : total (bytesOf (drop (0 + n * 2) b)) ≡ 0 = rw none-left in omega (arith, q .sum, e)
 
-    passed-of-block : Passed l from n r
+    add-up-of-block : PairsAddUp l from n r
     unfolding rest
-    passed-of-block =
+    add-up-of-block =
         record {
           digits = rw (joined, allDigits-append b rest, all-digits);
           sum = rw (joined, bytesOf-append n b rest size, total-append (bytesOf b) (bytesOf rest)) (omega (arith, sums));
         }
 
-  pub put-of-block : (d d′ : List ℕ) (to r : ℕ) → Put b 0 n d d′ to r → Put l from n d d′ to r
-  put-of-block d d′ to r p =
+  pub written-of-block : (d d′ : List ℕ) (to r : ℕ) → PairsWritten b 0 n d d′ to r → PairsWritten l from n d d′ to r
+  written-of-block d d′ to r p =
       record {
-        sum = record { good = λ h. passed-of-block r (p .sum .good h); bad = λ h. rw (joined, allDigits-append b rest, p .sum .bad h) };
+        sum = record { good = λ h. add-up-of-block r (p .sum .good h); bad = λ h. rw (joined, allDigits-append b rest, p .sum .bad h) };
         wrote = λ h.
             p .wrote h ∙ rw (joined, bytesOf-append n b rest size, take-append-le n (bytesOf b) (bytesOf rest) (length-bytesOf b 0 n (omega (arith, size))));
       }
 
   -- their sum alone
-  summed-of-part : (r : ℕ) → r ≡ digitsSum b → Summed l from n r
+  sum-of-part : (r : ℕ) → r ≡ digitsSum b → SumOfPairs l from n r
   unfolding digitsSum rest
-  summed-of-part r e =
+  sum-of-part r e =
       let even : length b % 2 ≡ 0 = omega (arith, size) in
       let sum = rw (eq-eqb (length b % 2) 0 even) at e in
       decide (allDigits b)
       (λ (q : allDigits b ≡ true).
       let is : r ≡ total (bytesOf b) % 256 = rw q at sum in
-      summed-all l from n r (omega arith)
+      sum-of-digits l from n r (omega arith)
       (record {
         digits = rw (joined, allDigits-append b rest, q);
         sum = rw (joined, bytesOf-append n b rest size, total-append (bytesOf b) (bytesOf rest)) (omega arith);
       }))
       (λ (q : allDigits b ≡ false).
       let is : r ≡ 256 = rw q at sum in
-      rw is (summed-none l from n (rw (joined, allDigits-append b rest, q))))
+      rw is (sum-of-no-digits l from n (rw (joined, allDigits-append b rest, q))))
 
-pub took-none : (l : List ℕ) (n : ℕ) (d : List ℕ) (to space r : ℕ) → 9 + n * 2 ≤ length l → space < n
-    → r ≡ digitsSum (take (9 + n * 2 - 9) (drop 9 l)) → TookData l n d d to space r
-took-none l n d to space r long h e =
+pub taken-no-room : (l : List ℕ) (n : ℕ) (d : List ℕ) (to space r : ℕ) → 9 + n * 2 ≤ length l → space < n
+    → r ≡ digitsSum (take (9 + n * 2 - 9) (drop 9 l)) → DataTaken l n d d to space r
+taken-no-room l n d to space r long h e =
     let m : 9 + n * 2 - 9 ≡ n * 2 = omega arith in
-    record { sum = summed-of-part l 9 n (take (n * 2) (drop 9 l)) refl long r (rw m at e); wrote = λ k. absurd (omega arith) }
+    record { sum = sum-of-part l 9 n (take (n * 2) (drop 9 l)) refl long r (rw m at e); wrote = λ k. absurd (omega arith) }

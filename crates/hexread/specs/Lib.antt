@@ -4,4 +4,4 @@ pub mod BlockLaws
 pub mod RecordLaws
 pub mod GatheredLaws
 pub mod LineLaws
-pub mod LinesLaws
+pub mod TextLaws

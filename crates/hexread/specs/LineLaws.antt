@@ -15,52 +15,52 @@ use Rattle.hextext.specs.Record.{digit, recordBytes, dataOf, formed, judge}
 use Rattle.hextext.specs.RecordLaws.{byteAt, allDigits-at, formed-digits, judge-unformed}
 use Rattle.hextext.specs.Text.{after, reading}
 use Rattle.hexline.specs.Line.{nextLine}
-use Rattle.hexline.specs.TypedLaws.{says-data}
+use Rattle.hexline.specs.TypedLaws.{good-data-record}
 use Rattle.hexread.specs.declared.line.Step.{Step}
 use Rattle.hexread.specs.declared.line.Step.the-variants.{More, Last, Stop}
 use Rattle.hexread.specs.DigitsLaws.{Pair, pair-byte, pair-small, pair-digits}
-use Rattle.hexread.specs.RecordLaws.{Counted, Taken, formed-by-digits}
+use Rattle.hexread.specs.RecordLaws.{Counted, RecordTaken, formed-by-digits}
 use Rattle.hexread.specs.GatheredLaws.{Ends, ends-found, ends-none, ends-inside, next-inside, next-further, StartsWithRecord, count-of-line, reading-no-record, reading-record}
 
 -- ---- reading at the first line
 
 -- it goes on at the next line with n bytes more
-pub record GoesOn (u d d′ : List ℕ) (room at n next : ℕ) : Type 0 where
+pub record ReadingGoesOn (u d d′ : List ℕ) (room at n next : ℕ) : Type 0 where
   pub inside : next ≤ length u
   pub further : 1 ≤ next
   pub fits : at + n ≤ room
   pub reads : (k : ℕ) → reading room k (take at d) [] u ≡ reading room (k + 1) (take (at + n) d′) [] (drop next u)
 
 -- it comes to the image, unless the text goes on
-pub record ComesToEnd (u d d′ : List ℕ) (room at next : ℕ) : Type 0 where
+pub record ReadingEnds (u d d′ : List ℕ) (room at next : ℕ) : Type 0 where
   pub inside : next ≤ length u
   pub whole : (k : ℕ) → next ≡ length u → reading room k (take at d) [] u ≡ result (take at d′)
   pub more : (k : ℕ) → next < length u → reading room k (take at d) [] u ≡ refused (refusal 1 (k + 1))
 
-pub record Stepped (r : Step) (u d d′ : List ℕ) (room at : ℕ) : Type 0 where
-  pub on-more : (n next : ℕ) → r ≡ More n next → GoesOn u d d′ room at n next
-  pub on-last : (next : ℕ) → r ≡ Last next → ComesToEnd u d d′ room at next
+pub record FirstLineRead (r : Step) (u d d′ : List ℕ) (room at : ℕ) : Type 0 where
+  pub on-more : (n next : ℕ) → r ≡ More n next → ReadingGoesOn u d d′ room at n next
+  pub on-last : (next : ℕ) → r ≡ Last next → ReadingEnds u d d′ room at next
   pub on-stop : (m : ℕ) → r ≡ Stop m → (k : ℕ) → reading room k (take at d) [] u ≡ refused (refusal m k)
 
 module _ (u d d′ : List ℕ) (room at : ℕ) where
-  stepped-stop : (m : ℕ) → ((k : ℕ) → reading room k (take at d) [] u ≡ refused (refusal m k)) → Stepped (Stop m) u d d′ room at
-  stepped-stop m h =
+  first-line-stops : (m : ℕ) → ((k : ℕ) → reading room k (take at d) [] u ≡ refused (refusal m k)) → FirstLineRead (Stop m) u d d′ room at
+  first-line-stops m h =
       record {
         on-more = λ n next q. let z : _≡_ {A = ℕ} 0 1 = cc in absurd (omega arith);
         on-last = λ next q. let z : _≡_ {A = ℕ} 0 1 = cc in absurd (omega arith);
         on-stop = λ j q k. let e : m ≡ j = cc in rw (← e) (h k);
       }
 
-  no-record : (StartsWithRecord u → ⊥) → Stepped (Stop 1) u d d′ room at
-  no-record h = stepped-stop 1 (λ k. reading-no-record room k (take at d) u h)
+  no-record : (StartsWithRecord u → ⊥) → FirstLineRead (Stop 1) u d d′ room at
+  no-record h = first-line-stops 1 (λ k. reading-no-record room k (take at d) u h)
 
-  pub stop-short : length u < 12 → Stepped (Stop 1) u d d′ room at
+  pub stop-short : length u < 12 → FirstLineRead (Stop 1) u d d′ room at
   stop-short h = no-record (λ s. omega (arith, ends-inside (s .ends)))
 
-  pub stop-colon : (getD u 0 0 ≡ 58 → ⊥) → Stepped (Stop 1) u d d′ room at
+  pub stop-colon : (getD u 0 0 ≡ 58 → ⊥) → FirstLineRead (Stop 1) u d d′ room at
   stop-colon h = no-record (λ s. h (s .colon))
 
-  pub stop-count : (n : ℕ) → Pair u 1 n → 256 ≤ n → Stepped (Stop 1) u d d′ room at
+  pub stop-count : (n : ℕ) → Pair u 1 n → 256 ≤ n → FirstLineRead (Stop 1) u d d′ room at
   stop-count n p h = no-record (λ s. omega (arith, pair-small u 1 n p (digit-of-count s 0 (omega arith)) (digit-of-count s 1 (omega arith))))
     where
       digit-of-count : StartsWithRecord u → (i : ℕ) → i < 2 → digit (getD u (1 + i) 0) < 16
@@ -70,7 +70,7 @@ module _ (u d d′ : List ℕ) (room at : ℕ) where
           let a = allDigits-at (drop 1 (take e u)) i (s .digits) (simp length-drop (omega arith)) in
           rw (getD-drop 1 (take e u) i 0, getD-take e u (1 + i) 0 (omega arith)) at a
 
-  pub stop-end : (n next : ℕ) → Pair u 1 n → n < 256 → next ≡ nextLine u (11 + n * 2) → next ≡ 0 → Stepped (Stop 1) u d d′ room at
+  pub stop-end : (n next : ℕ) → Pair u 1 n → n < 256 → next ≡ nextLine u (11 + n * 2) → next ≡ 0 → FirstLineRead (Stop 1) u d d′ room at
   stop-end n next p h f z = no-record (λ s. ends-none u (11 + n * 2) next f z (s .next) (rw (pair-byte u 1 n p h) (s .ends)))
 
 pub line-inside : (u : List ℕ) (e next : ℕ) → next ≡ nextLine u e → (next ≡ 0 → ⊥) → e ≤ length u
@@ -91,7 +91,7 @@ line-counted u n next c p h f z =
     let b = count-of-line u (11 + n * 2) (omega arith) (omega arith) in
     let high = getD-take (11 + n * 2) u 1 0 (omega arith) in
     let low = getD-take (11 + n * 2) u (1 + 1) 0 (omega arith) in
-    let q : Pair (countedLine u n) 1 n = record { is = rw (high, low) (p .is) } in
+    let q : Pair (countedLine u n) 1 n = record { is = rw (high, low) (p .is); bound = p .bound } in
     record {
       long = l;
       colon = getD-take (11 + n * 2) u 0 0 (omega arith) ∙ c;
@@ -101,7 +101,8 @@ line-counted u n next c p h f z =
     }
 
 module _ (u d d′ : List ℕ) (room at n next : ℕ) (r : Record) (c : getD u 0 0 ≡ 58) (p : Pair u 1 n) (h : n < 256)
-    (f : next ≡ nextLine u (11 + n * 2)) (z : next ≡ 0 → ⊥) (within : at ≤ room) (roomy : room ≤ length d) (t : Taken r (countedLine u n) d d′ room at) where
+    (f : next ≡ nextLine u (11 + n * 2)) (z : next ≡ 0 → ⊥) (within : at ≤ room) (roomy : room ≤ length d)
+    (t : RecordTaken r (countedLine u n) d d′ room at) where
   ends : Ends u (11 + n * 2) next
   ends = ends-found u (11 + n * 2) next f z
 
@@ -115,10 +116,10 @@ module _ (u d d′ : List ℕ) (room at n next : ℕ) (r : Record) (c : getD u 0
       let l : length (take at d) ≡ at = length-take-le at d (omega arith) in
       rw (← t .judged) at (rw l at e)
 
-  pub step-more : (m : ℕ) → r ≡ Data m → Stepped (More m next) u d d′ room at
+  pub step-more : (m : ℕ) → r ≡ Data m → FirstLineRead (More m next) u d d′ room at
   unfolding after
   step-more m e =
-      let s = says-data room at (countedLine u n) m (sym (t .judged) ∙ e) in
+      let s = good-data-record room at (countedLine u n) m (sym (t .judged) ∙ e) in
       record {
         on-more = λ m′ next′ q.
             let q1 : m ≡ m′ = cc in
@@ -138,7 +139,7 @@ module _ (u d d′ : List ℕ) (room at n next : ℕ) (r : Record) (c : getD u 0
       decide (formed (countedLine u n)) (λ (q : formed (countedLine u n) ≡ true). q)
       (λ (q : formed (countedLine u n) ≡ false). absurd (g (judge-unformed room at (countedLine u n) q)))
 
-  pub step-last : r ≡ End → Stepped (Last next) u d d′ room at
+  pub step-last : r ≡ End → FirstLineRead (Last next) u d d′ room at
   unfolding after
   step-last e =
       let g = formed-unless-fault (λ b. let z : _≡_ {A = ℕ} 0 1 = cc (t .judged) in omega arith) in
@@ -154,11 +155,11 @@ module _ (u d d′ : List ℕ) (room at n next : ℕ) (r : Record) (c : getD u 0
         on-stop = λ m q. let z : _≡_ {A = ℕ} 0 1 = cc in absurd (omega arith);
       }
 
-  pub step-stop : (m : ℕ) → r ≡ Fault m → Stepped (Stop m) u d d′ room at
+  pub step-stop : (m : ℕ) → r ≡ Fault m → FirstLineRead (Stop m) u d d′ room at
   unfolding after
   step-stop m e =
       decide (formed (countedLine u n))
-      (λ (g : formed (countedLine u n) ≡ true). stepped-stop u d d′ room at m (λ k. rw (reads-formed g k, e)))
+      (λ (g : formed (countedLine u n) ≡ true). first-line-stops u d d′ room at m (λ k. rw (reads-formed g k, e)))
       (λ (g : formed (countedLine u n) ≡ false).
       let j = judge-unformed room at (countedLine u n) g in
       let q : m ≡ 1 = cc (t .judged) in

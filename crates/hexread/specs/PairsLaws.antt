@@ -10,7 +10,7 @@ use lib.Seq.{drop-drop, take-add, paste, paste-zero, paste-suc, take-paste, drop
 use Rattle.hextext.specs.Record.{digit, allDigits, bytesOf}
 use Rattle.hextext.specs.RecordLaws.{bytesOf-more, getD-bytesOf, length-bytesOf}
 use Rattle.hexline.specs.DigitsLaws.{digits-spell}
-use Rattle.hexline.specs.PairsLaws.{Passed, passed-then, Adding, adding-first, adding-more}
+use Rattle.hexline.specs.PairsLaws.{PairsAddUp, add-up-then, AddingPairs, adding-first, adding-more}
 
 -- ---- bytes from a place on, and written in two goes
 
@@ -36,42 +36,42 @@ paste-then d to bytes n m h k =
 
 -- ---- their sum r modulo 256, or 256 where one has a character that is no digit
 
-pub record Summed (l : List ℕ) (from n r : ℕ) : Type 0 where
-  pub good : r < 256 → Passed l from n r
+pub record SumOfPairs (l : List ℕ) (from n r : ℕ) : Type 0 where
+  pub good : r < 256 → PairsAddUp l from n r
   pub bad : 256 ≤ r → allDigits (drop from l) ≡ false
 
-pub summed-none : (l : List ℕ) (from n : ℕ) → allDigits (drop from l) ≡ false → Summed l from n 256
-summed-none l from n e = record { good = λ h. absurd (omega arith); bad = λ h. e }
+pub sum-of-no-digits : (l : List ℕ) (from n : ℕ) → allDigits (drop from l) ≡ false → SumOfPairs l from n 256
+sum-of-no-digits l from n e = record { good = λ h. absurd (omega arith); bad = λ h. e }
 
-pub summed-all : (l : List ℕ) (from n r : ℕ) → r < 256 → Passed l from n r → Summed l from n r
-summed-all l from n r h p = record { good = λ k. p; bad = λ k. absurd (omega arith) }
+pub sum-of-digits : (l : List ℕ) (from n r : ℕ) → r < 256 → PairsAddUp l from n r → SumOfPairs l from n r
+sum-of-digits l from n r h p = record { good = λ k. p; bad = λ k. absurd (omega arith) }
 
 -- ---- the same, with their bytes in the image
 
-pub record Put (l : List ℕ) (from n : ℕ) (d d′ : List ℕ) (to r : ℕ) : Type 0 where
-  pub sum : Summed l from n r
+pub record PairsWritten (l : List ℕ) (from n : ℕ) (d d′ : List ℕ) (to r : ℕ) : Type 0 where
+  pub sum : SumOfPairs l from n r
   pub wrote : r < 256 → d′ ≡ paste d to (bytesOf (drop from l)) n
 
-put-none : (l : List ℕ) (from n : ℕ) (d d′ : List ℕ) (to : ℕ) → allDigits (drop from l) ≡ false → Put l from n d d′ to 256
-put-none l from n d d′ to e = record { sum = summed-none l from n e; wrote = λ h. absurd (omega arith) }
+written-no-digits : (l : List ℕ) (from n : ℕ) (d d′ : List ℕ) (to : ℕ) → allDigits (drop from l) ≡ false → PairsWritten l from n d d′ to 256
+written-no-digits l from n d d′ to e = record { sum = sum-of-no-digits l from n e; wrote = λ h. absurd (omega arith) }
 
 -- after i of them. The loop over blocks, which stops where one has no digits, says that the greatest digit is 0
-pub record Putting (l : List ℕ) (from n : ℕ) (d d′ : List ℕ) (to s worst i : ℕ) : Type 0 where
-  pub adding : Adding l from n s worst i
-  pub wrote : worst < 16 → d′ ≡ paste d to (bytesOf (drop from l)) i
+pub record WritingPairs (l : List ℕ) (from n : ℕ) (d d′ : List ℕ) (to s largest i : ℕ) : Type 0 where
+  pub adding : AddingPairs l from n s largest i
+  pub wrote : largest < 16 → d′ ≡ paste d to (bytesOf (drop from l)) i
   pub kept : length d′ ≡ length d
 
-pub putting-first : (l : List ℕ) (from n : ℕ) (d : List ℕ) (to : ℕ) → Putting l from n d d to 0 0 0
-putting-first l from n d to = record { adding = adding-first l from n; wrote = λ h. paste-zero d to (bytesOf (drop from l)); kept = refl }
+pub writing-first : (l : List ℕ) (from n : ℕ) (d : List ℕ) (to : ℕ) → WritingPairs l from n d d to 0 0 0
+writing-first l from n d to = record { adding = adding-first l from n; wrote = λ h. paste-zero d to (bytesOf (drop from l)); kept = refl }
 
-module _ (l : List ℕ) (from n : ℕ) (d d′ : List ℕ) (to s worst i : ℕ) (h : Putting l from n d d′ to s worst i) where
-  pub putting-more : (high low next worse : ℕ) → from + n * 2 ≤ length l → to + n ≤ length d → i < n
+module _ (l : List ℕ) (from n : ℕ) (d d′ : List ℕ) (to s largest i : ℕ) (h : WritingPairs l from n d d′ to s largest i) where
+  pub writing-more : (high low next larger : ℕ) → from + n * 2 ≤ length l → to + n ≤ length d → i < n
       → high ≡ digit (getD l (from + i * 2) 0) → low ≡ digit (getD l (from + i * 2 + 1) 0)
-      → next ≡ (s + (high % 16 * 16 + low % 16)) % 256 → worse ≡ max worst (max high low)
-      → Putting l from n d (set d′ (to + i) (high % 16 * 16 + low % 16)) to next worse (i + 1)
-  putting-more high low next worse long room k p q e f =
+      → next ≡ (s + (high % 16 * 16 + low % 16)) % 256 → larger ≡ max largest (max high low)
+      → WritingPairs l from n d (set d′ (to + i) (high % 16 * 16 + low % 16)) to next larger (i + 1)
+  writing-more high low next larger long room k p q e f =
       record {
-        adding = adding-more l from n s worst i (h .adding) high low next worse long k p q e f;
+        adding = adding-more l from n s largest i (h .adding) high low next larger long k p q e f;
         wrote = λ z.
             rw (
               h .wrote (omega arith),
@@ -83,29 +83,29 @@ module _ (l : List ℕ) (from n : ℕ) (d d′ : List ℕ) (to s worst i : ℕ) 
         kept = simp length-set (h .kept);
       }
 
-  pub putting-failed : 16 ≤ worst → Put l from n d d′ to 256
-  putting-failed k = put-none l from n d d′ to (h .adding .failed k)
+  pub writing-failed : 16 ≤ largest → PairsWritten l from n d d′ to 256
+  writing-failed k = written-no-digits l from n d d′ to (h .adding .bad k)
 
-  pub putting-end : n ≤ i → worst < 16 → Put l from n d d′ to s
-  putting-end k y =
+  pub writing-end : n ≤ i → largest < 16 → PairsWritten l from n d d′ to s
+  writing-end k y =
       let e : i ≡ n = omega (arith, h .adding .within) in
-      record { sum = summed-all l from n s (h .adding .small) (rw e at (h .adding .passed y)); wrote = λ z. rw e at (h .wrote y) }
+      record { sum = sum-of-digits l from n s (h .adding .small) (rw e at (h .adding .good y)); wrote = λ z. rw e at (h .wrote y) }
 
 -- m more at once
-module _ (l : List ℕ) (from n : ℕ) (d d′ : List ℕ) (to s worst i : ℕ) (h : Putting l from n d d′ to s worst i) (good : worst < 16)
-    (m : ℕ) (d″ : List ℕ) (r : ℕ) (p : Put l (from + i * 2) m d′ d″ (to + i) r) where
-  pub putting-block-failed : 256 ≤ r → Put l from n d d″ to 256
-  putting-block-failed k = put-none l from n d d″ to (h .adding .passed good .digits ∙ p .sum .bad k)
+module _ (l : List ℕ) (from n : ℕ) (d d′ : List ℕ) (to s largest i : ℕ) (h : WritingPairs l from n d d′ to s largest i) (good : largest < 16)
+    (m : ℕ) (d″ : List ℕ) (r : ℕ) (p : PairsWritten l (from + i * 2) m d′ d″ (to + i) r) where
+  pub writing-block-failed : 256 ≤ r → PairsWritten l from n d d″ to 256
+  writing-block-failed k = written-no-digits l from n d d″ to (h .adding .good good .digits ∙ p .sum .bad k)
 
   module _ (same-length : length d″ ≡ length d′) (long : from + n * 2 ≤ length l) (room : to + n ≤ length d) (small : r < 256) where
-    pub putting-block : m ≤ n - i → Putting l from n d d″ to ((s + r) % 256) worst (i + m)
-    putting-block k =
+    pub writing-block : m ≤ n - i → WritingPairs l from n d d″ to ((s + r) % 256) largest (i + m)
+    writing-block k =
         record {
           adding = record {
             within = omega (arith, h .adding .within);
             small = omega arith;
-            passed = λ z. passed-then l from i m s r (h .adding .passed good) (p .sum .good small);
-            failed = h .adding .failed;
+            good = λ z. add-up-then l from i m s r (h .adding .good good) (p .sum .good small);
+            bad = h .adding .bad;
           };
           wrote = λ z.
               rw (p .wrote small, h .wrote good, bytesOf-drop l from i (omega (arith, h .adding .within)))
@@ -114,12 +114,12 @@ module _ (l : List ℕ) (from n : ℕ) (d d′ : List ℕ) (to s worst i : ℕ) 
         }
 
     -- the last of them
-    pub putting-rest : m ≡ n - i → Put l from n d d″ to ((s + r) % 256)
-    putting-rest k =
-        putting-end l from n d d″ to ((s + r) % 256) worst (i + m) (putting-block (omega arith)) (omega (arith, h .adding .within)) good
+    pub writing-rest : m ≡ n - i → PairsWritten l from n d d″ to ((s + r) % 256)
+    writing-rest k =
+        writing-end l from n d d″ to ((s + r) % 256) largest (i + m) (writing-block (omega arith)) (omega (arith, h .adding .within)) good
 
 -- ---- their bytes in the image where they have room
 
-pub record TookData (l : List ℕ) (n : ℕ) (d d′ : List ℕ) (to space r : ℕ) : Type 0 where
-  pub sum : Summed l 9 n r
+pub record DataTaken (l : List ℕ) (n : ℕ) (d d′ : List ℕ) (to space r : ℕ) : Type 0 where
+  pub sum : SumOfPairs l 9 n r
   pub wrote : n ≤ space → r < 256 → d′ ≡ paste d to (bytesOf (drop 9 l)) n

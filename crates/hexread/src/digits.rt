@@ -1,12 +1,16 @@
+// Pairs of characters as bytes, by a table of digit values.
 ghost use Prim.Native.Nat.{_+_, _<_};
 ghost use lib.ListN.{length};
-ghost use Rattle.hexread.specs.DigitsLaws.{Valued, Value, Pair};
+ghost use Rattle.hexread.specs.DigitsLaws.{DigitValues, DigitValue, Pair};
 
-// The value of each character as a hexadecimal digit, or 256: a table, for a pair by itself.
+// In place of a digit's value. Above what a record's six parts add up to, so that their sum shows whether one is no digits.
+pub const NO_DIGIT: usize = 2048;
+
+// The value of each character as a hexadecimal digit, or NO_DIGIT: a table, for a pair by itself.
 pub fn values() -> [usize; 256]
-    ensures { λ r. ⌜ Valued r ⌝ }
+    ensures { λ r. ⌜ DigitValues r ⌝ }
 {
-    let mut values = [256usize; 256];
+    let mut values = [NO_DIGIT; 256];
     // 0 to 9
     values[48] = 0;
     values[49] = 1;
@@ -36,15 +40,15 @@ pub fn values() -> [usize; 256]
 }
 
 fn value(values: &[usize; 256], character: u8) -> usize
-    requires { ⌜ Valued (now values) ⌝ }
-    ensures { λ r. ⌜ Value character r ⌝ }
+    requires { ⌜ DigitValues (now values) ⌝ }
+    ensures { λ r. ⌜ DigitValue character r ⌝ }
 {
     values[character as usize]
 }
 
-// The byte that the two characters at `at` spell, 256 or more where they are no digits.
+// The byte that the two characters at `at` spell, NO_DIGIT or more where they are no digits.
 pub fn pair(values: &[usize; 256], text: &[u8], at: usize) -> usize
-    requires { ⌜ Valued (now values) × (at + 1 < length (now text)) ⌝ }
+    requires { ⌜ DigitValues (now values) × (at + 1 < length (now text)) ⌝ }
     ensures { λ r. ⌜ Pair (now (text .entry)) at r ⌝ }
 {
     let high = value(values, text[at]);

@@ -13,14 +13,13 @@ mod record;
 // The first line of a text, found by its record's count.
 mod line;
 
-// The lines of a text in order.
-mod lines;
+// The whole text, line by line.
+mod text;
 
 // Reads the text into the image, with zeros after it; where the text is refused the image is all zeros.
 pub fn read(text: &[u8], image: &mut [u8]) -> Filled
     ensures { λ r. ⌜ Fills (readText (length (now (image .entry))) (now (text .entry))) (now (image .entry)) r (now (image .exit)) ⌝ }
 {
-    let values = digits::values();
-    let answer = lines::read_lines(&values, text, image);
+    let answer = text::read_lines(text, image);
     refusals::settled(answer, image)
 }

@@ -1,7 +1,8 @@
+// The first line of a text, found by its record's count.
 ghost use Prim.Native.Nat.{_≤_};
 ghost use lib.ListN.{length};
-ghost use Rattle.hexread.specs.DigitsLaws.{Valued};
-ghost use Rattle.hexread.specs.LineLaws.{Stepped};
+ghost use Rattle.hexread.specs.DigitsLaws.{DigitValues};
+ghost use Rattle.hexread.specs.LineLaws.{FirstLineRead};
 use crate::digits::pair;
 use crate::record::take_record;
 use hexline::next_line;
@@ -23,8 +24,8 @@ pub fn first_line(
     at: usize,
     room: usize,
 ) -> Step
-    requires { ⌜ Valued (now values) × (at ≤ room) × (room ≤ length (now image)) ⌝ }
-    ensures { λ r. ⌜ Stepped r (now (text .entry)) (now (image .entry)) (now (image .exit)) room at ⌝ }
+    requires { ⌜ DigitValues (now values) × (at ≤ room) × (room ≤ length (now image)) ⌝ }
+    ensures { λ r. ⌜ FirstLineRead r (now (text .entry)) (now (image .entry)) (now (image .exit)) room at ⌝ }
 {
     if text.len() < 12 {
         return Step::Stop(1);

@@ -1,9 +1,11 @@
+// The record of a line: its data written into the image, its parts judged.
 ghost use mathlib.Core.Path.{_≡_};
-ghost use Prim.Native.Nat.{_+_, _*_, _≤_, max};
+ghost use Prim.Native.Nat.{_+_, _*_, _≤_};
 ghost use lib.ListN.{length, take, drop};
-ghost use Rattle.hexread.specs.DigitsLaws.{Valued};
-ghost use Rattle.hexread.specs.PairsLaws.{Put, TookData};
-ghost use Rattle.hexread.specs.RecordLaws.{Counted, Taken};
+ghost use Rattle.hexread.specs.DigitsLaws.{DigitValues};
+ghost use Rattle.hexread.specs.PairsLaws.{PairsWritten, DataTaken};
+ghost use Rattle.hexread.specs.RecordLaws.{Bounded, judgedParts, Counted, RecordTaken};
+use crate::digits::NO_DIGIT;
 use crate::digits::pair;
 use hexline::digit;
 use hexline::digits_sum;
@@ -12,14 +14,19 @@ use hexline::judge_header;
 use hextext::Header;
 use hextext::Record;
 
-// Writes the bytes that `count` pairs from character `from` on spell into the image at `to`, all before it looks whether a
-// character was no digit, so that many go at once. Their sum modulo 256, or 256 where one was none.
+// data bytes at a time
+const BLOCK: usize = 16;
+
+const BLOCK_CHARACTERS: usize = BLOCK * 2;
+
+// Writes the bytes that `count` pairs from character `from` on spell into the image at `to`. Their sum modulo 256, or 256
+// where a character is no digit. The digits are validated after the loop, so that it vectorises.
 fn put_pairs(line: &[u8], from: usize, count: usize, image: &mut [u8], to: usize) -> usize
     requires { ⌜ (from + count * 2 ≤ length (now line)) × (to + count ≤ length (now image)) ⌝ }
-    ensures { λ r. ⌜ Put (now (line .entry)) from count (now (image .entry)) (now (image .exit)) to r ⌝ }
+    ensures { λ r. ⌜ PairsWritten (now (line .entry)) from count (now (image .entry)) (now (image .exit)) to r ⌝ }
 {
     let mut sum: u8 = 0;
-    let mut worst: u8 = 0;
+    let mut largest: u8 = 0;
     let mut i: usize = 0;
     while i < count {
         let high = digit(line[from + i * 2]);
@@ -27,45 +34,45 @@ fn put_pairs(line: &[u8], from: usize, count: usize, image: &mut [u8], to: usize
         let byte = high % 16 * 16 + low % 16;
         image[to + i] = byte;
         sum = std::num::wrapping_add_u8(sum, byte);
-        worst = greatest(worst, high, low);
+        largest = greatest(largest, high, low);
         i += 1;
     }
-    if 16 <= worst {
+    if 16 <= largest {
         return 256;
     }
     sum as usize
 }
 
-// The characters of 16 pairs, taken out: so the compiler knows that no byte of the image is among them.
-fn block_at(line: &[u8], from: usize) -> [u8; 32]
+// A block's characters, copied: so the compiler knows that the image does not alias them.
+fn block_at(line: &[u8], from: usize) -> [u8; BLOCK_CHARACTERS]
     requires { ⌜ from + 32 ≤ length (now line) ⌝ }
     ensures { λ r. ⌜ r ≡ take 32 (drop from (now (line .entry))) ⌝ }
 {
-    let mut characters = [0u8; 32];
+    let mut characters = [0u8; BLOCK_CHARACTERS];
     let mut i: usize = 0;
-    while i < 32 {
+    while i < BLOCK_CHARACTERS {
         characters[i] = line[from + i];
         i += 1;
     }
     characters
 }
 
-// The same of a record's data, which start at the tenth character, in blocks of 16: a count that the compiler knows, so that
-// it takes a block at once.
+// The same of a record's data, which start at the tenth character, in blocks: their length is a constant, so that the loop over
+// a block is unrolled and vectorised.
 fn put_data(line: &[u8], count: usize, image: &mut [u8], to: usize) -> usize
     requires { ⌜ (9 + count * 2 ≤ length (now line)) × (to + count ≤ length (now image)) ⌝ }
-    ensures { λ r. ⌜ Put (now (line .entry)) 9 count (now (image .entry)) (now (image .exit)) to r ⌝ }
+    ensures { λ r. ⌜ PairsWritten (now (line .entry)) 9 count (now (image .entry)) (now (image .exit)) to r ⌝ }
 {
     let mut sum: usize = 0;
     let mut i: usize = 0;
-    while 16 <= count - i {
+    while BLOCK <= count - i {
         let characters = block_at(line, 9 + i * 2);
-        let block = put_pairs(&characters, 0, 16, image, to + i);
+        let block = put_pairs(&characters, 0, BLOCK, image, to + i);
         if 256 <= block {
             return 256;
         }
         sum = (sum + block) % 256;
-        i += 16;
+        i += BLOCK;
     }
     let rest = put_pairs(line, 9 + i * 2, count - i, image, to + i);
     if 256 <= rest {
@@ -77,7 +84,7 @@ fn put_data(line: &[u8], count: usize, image: &mut [u8], to: usize) -> usize
 // The sum of the data, and these in the image where they have room; where not, the image stays.
 fn take_data(line: &[u8], count: usize, image: &mut [u8], to: usize, space: usize) -> usize
     requires { ⌜ (9 + count * 2 ≤ length (now line)) × (to + space ≤ length (now image)) ⌝ }
-    ensures { λ r. ⌜ TookData (now (line .entry)) count (now (image .entry)) (now (image .exit)) to space r ⌝ }
+    ensures { λ r. ⌜ DataTaken (now (line .entry)) count (now (image .entry)) (now (image .exit)) to space r ⌝ }
 {
     if count <= space {
         return put_data(line, count, image, to);
@@ -86,40 +93,28 @@ fn take_data(line: &[u8], count: usize, image: &mut [u8], to: usize, space: usiz
     digits_sum(&line[9..end])
 }
 
-fn greater(one: usize, other: usize) -> usize
-    ensures { λ r. ⌜ r ≡ max one other ⌝ }
-{
-    if one < other { other } else { one }
-}
-
-// The greatest of five bytes and sums: 256 and above where one is of characters that are no digits.
-fn worst(high: usize, low: usize, kind: usize, sum: usize, check: usize) -> usize
-    ensures { λ r. ⌜ r ≡ max high (max low (max kind (max sum check))) ⌝ }
-{
-    greater(high, greater(low, greater(kind, greater(sum, check))))
-}
-
-// The record of a line that is as long as its count says, judged, its data in the image where they have room.
-pub fn take_record(
-    values: &[usize; 256],
-    line: &[u8],
-    count: usize,
-    image: &mut [u8],
-    at: usize,
+// A record judged by its  One test of their sum for all pairs: NO_DIGIT is above the sum of six bytes.
+fn judge_parts(
     room: usize,
+    at: usize,
+    count: usize,
+    high: usize,
+    low: usize,
+    kind: usize,
+    data: usize,
+    check: usize,
 ) -> Record
-    requires { ⌜ Valued (now values) × Counted (now line) count × (at ≤ room) × (room ≤ length (now image)) ⌝ }
-    ensures { λ r. ⌜ Taken r (now (line .entry)) (now (image .entry)) (now (image .exit)) room at ⌝ }
+    requires { ⌜ Bounded count high low kind check ⌝ }
+    ensures { λ r. ⌜ r ≡ judgedParts room at count high low kind «data» check ⌝ }
 {
-    let high = pair(values, line, 3);
-    let low = pair(values, line, 5);
-    let kind = pair(values, line, 7);
-    let data = take_data(line, count, image, at, room - at);
-    let check = pair(values, line, 9 + count * 2);
-    if 256 <= worst(high, low, kind, data, check) {
+    if 256 <= data {
         return Record::Fault(1);
     }
-    if (count + high + low + kind + data + check) % 256 != 0 {
+    let sum = count + high + low + kind + data + check;
+    if NO_DIGIT <= sum {
+        return Record::Fault(1);
+    }
+    if sum % 256 != 0 {
         return Record::Fault(2);
     }
     let address = high * 256 + low;
@@ -132,4 +127,24 @@ pub fn take_record(
             kind,
         },
     )
+}
+
+// The record of a line that is as long as its count says, judged, its data in the image where they have room.
+pub fn take_record(
+    values: &[usize; 256],
+    line: &[u8],
+    count: usize,
+    image: &mut [u8],
+    at: usize,
+    room: usize,
+) -> Record
+    requires { ⌜ DigitValues (now values) × Counted (now line) count × (at ≤ room) × (room ≤ length (now image)) ⌝ }
+    ensures { λ r. ⌜ RecordTaken r (now (line .entry)) (now (image .entry)) (now (image .exit)) room at ⌝ }
+{
+    let high = pair(values, line, 3);
+    let low = pair(values, line, 5);
+    let kind = pair(values, line, 7);
+    let data = take_data(line, count, image, at, room - at);
+    let check = pair(values, line, 9 + count * 2);
+    judge_parts(room, at, count, high, low, kind, data, check)
 }

@@ -29,7 +29,10 @@ module _ (c : ℕ) where
 
   pub digit-lower-case : 97 ≤ c → c ≤ 102 → digit c ≡ c - 87
   unfolding digit
-  digit-lower-case h k = simp (le-leb 48 c (omega arith), lt-leb c 57 (omega arith), le-leb 65 c (omega arith), lt-leb c 70 (omega arith), le-leb 97 c h, le-leb c 102 k)
+  digit-lower-case h k =
+      let no-decimal = lt-leb c 57 (omega arith) in
+      let no-upper-case = lt-leb c 70 (omega arith) in
+      simp (le-leb 48 c (omega arith), no-decimal, le-leb 65 c (omega arith), no-upper-case, le-leb 97 c h, le-leb c 102 k)
 
   pub digit-low : c < 48 → digit c ≡ 16
   unfolding digit
@@ -45,7 +48,10 @@ module _ (c : ℕ) where
 
   pub digit-high : 102 < c → digit c ≡ 16
   unfolding digit
-  digit-high h = simp (le-leb 48 c (omega arith), lt-leb c 57 (omega arith), le-leb 65 c (omega arith), lt-leb c 70 (omega arith), le-leb 97 c (omega arith), lt-leb c 102 h)
+  digit-high h =
+      let no-decimal = lt-leb c 57 (omega arith) in
+      let no-upper-case = lt-leb c 70 (omega arith) in
+      simp (le-leb 48 c (omega arith), no-decimal, le-leb 65 c (omega arith), no-upper-case, le-leb 97 c (omega arith), lt-leb c 102 h)
 
 -- ---- the lists from a place on, by what stands there
 

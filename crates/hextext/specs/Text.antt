@@ -4,6 +4,7 @@ use mathlib.Core.List.{List, [], _∷_, _++_}
 use Prim.Native.Nat.{ℕ, suc, _+_, _-_, min}
 use lib.Dec.{eqb}
 use lib.ListN.{length, take, getD}
+use Rattle.limits.specs.Limits.{largestImage}
 use Rattle.refusals.specs.Refusals.{Outcome, result, refused, refusal}
 use Rattle.hextext.specs.declared.Record.{Record}
 use Rattle.hextext.specs.declared.Record.the-variants.{Data, End, Fault}
@@ -38,4 +39,4 @@ reading room line image passed (c ∷ text) =
 
 -- a text read into a buffer of `size` bytes; an image has 4,096 at most
 unfoldable pub readText : (size : ℕ) (text : List ℕ) → Outcome
-readText size text = reading (min 4096 size) 1 [] [] text
+readText size text = reading (min largestImage size) 1 [] [] text

@@ -4,6 +4,7 @@ use mathlib.Core.List.{List, [], _∷_, _++_}
 use Prim.Native.Nat.{ℕ, zero, suc, _+_, _-_, _*_, _/_, _%_}
 use lib.Dec.{ltb, leb, eqb}
 use lib.ListN.{length, take, drop}
+use Rattle.limits.specs.Limits.{largestImage}
 use Rattle.laws.specs.Sums.{total}
 use Rattle.refusals.specs.Refusals.{Outcome, checked, ask, andThen}
 
@@ -44,5 +45,5 @@ textLength n = n / 16 * 44 + cond (eqb (n % 16) 0) 0 (12 + n % 16 * 2) + 12
 unfoldable pub writeImage : (size : ℕ) (image : List ℕ) → Outcome
 writeImage size image =
     checked
-    (andThen (ask (leb (length image) 4096) 4 0) (ask (leb (textLength (length image)) size) 17 0))
+    (andThen (ask (leb (length image) largestImage) 4 0) (ask (leb (textLength (length image)) size) 17 0))
     (textOf image)

@@ -31,7 +31,8 @@ checksum-of-sums l m a b sum e f g =
 pub wrote-head : (at : ℕ) (x d d₁ d₂ : List ℕ) → WrittenAt at (58 ∷ []) d d₁ → WrittenAt (at + 1) (spell x) d₁ d₂ → WrittenAt at (58 ∷ spell x) d d₂
 wrote-head at x d d₁ d₂ w v = written-then at (at + 1) (58 ∷ []) (spell x) d d₁ d₂ w refl v
 
-pub wrote-end : (at check : ℕ) (d d₁ d₂ : List ℕ) → WrittenAt at (spell (check ∷ [])) d d₁ → WrittenAt (at + 2) (10 ∷ []) d₁ d₂ → WrittenAt at (spell (check ∷ []) ++ 10 ∷ []) d d₂
+pub wrote-end : (at check : ℕ) (d d₁ d₂ : List ℕ) → WrittenAt at (spell (check ∷ [])) d d₁ → WrittenAt (at + 2) (10 ∷ []) d₁ d₂
+    → WrittenAt at (spell (check ∷ []) ++ 10 ∷ []) d d₂
 wrote-end at check d d₁ d₂ w v = written-then at (at + 2) (spell (check ∷ [])) (10 ∷ []) d d₁ d₂ w (omega (arith, length-spell (check ∷ []))) v
 
 -- a record, and where the next one starts

@@ -7,6 +7,7 @@ use borrow.Author.Tests.{le-leb, lt-leb}
 use denote.Ref.{RefT, now}
 use lib.ListN.{length, take, drop, length-append, length-take, length-drop}
 use lib.Seq.{drop-drop}
+use Rattle.limits.specs.Limits.{largestImage}
 use Rattle.numbers.specs.Slices.{IsPart}
 use Rattle.refusals.specs.declared.Filled.the-variants.{Length, Refused}
 use Rattle.refusals.specs.Refusals.{refusal}
@@ -53,8 +54,8 @@ module _ (x d₀ d : List ℕ) (start at : ℕ) (h : Writing x d₀ d start at) 
       pub part-small : n < 256 → length (now part) < 256
       part-small m = rw is (omega (arith, length-take n (drop start x)))
 
-    pub writing-more : (next : ℕ) (d′ : List ℕ) → IsPart image part start 16 → start < length x → length d′ ≡ length d → WroteRecord at start 0 (now part) d next d′
-        → Writing x d₀ d′ (start + 16) next
+    pub writing-more : (next : ℕ) (d′ : List ℕ) → IsPart image part start 16 → start < length x → length d′ ≡ length d
+        → WroteRecord at start 0 (now part) d next d′ → Writing x d₀ d′ (start + 16) next
     writing-more next d′ cut k same w =
         let p : List ℕ = recordText start 0 (now part) in
         let e : next ≡ at + length p = omega (arith, w .follows, length-recordText start 0 (now part)) in
@@ -79,17 +80,17 @@ module _ (x d₀ d : List ℕ) (start at : ℕ) (h : Writing x d₀ d start at) 
 -- ---- the answer
 
 module _ (x d : List ℕ) where
-  pub writes-too-large : 4096 < length x → Begins (writeImage (length d) x) (Refused (refusal 4 0)) d
+  pub writes-too-large : largestImage < length x → Begins (writeImage (length d) x) (Refused (refusal 4 0)) d
   unfolding writeImage
-  writes-too-large h = rw (lt-leb (length x) 4096 h) (record { answers = refl; begins = refl })
+  writes-too-large h = rw (lt-leb (length x) largestImage h) (record { answers = refl; begins = refl })
 
-  module _ (h : length x ≤ 4096) (n : ℕ) (e : n ≡ textLength (length x)) where
+  module _ (h : length x ≤ largestImage) (n : ℕ) (e : n ≡ textLength (length x)) where
     pub writes-no-room : length d < n → Begins (writeImage (length d) x) (Refused (refusal 17 0)) d
     unfolding writeImage
-    writes-no-room k = rw (le-leb (length x) 4096 h, lt-leb (textLength (length x)) (length d) (omega arith)) (record { answers = refl; begins = refl })
+    writes-no-room k = rw (le-leb (length x) largestImage h, lt-leb (textLength (length x)) (length d) (omega arith)) (record { answers = refl; begins = refl })
 
     pub writes-text : (d′ : List ℕ) → n ≤ length d → take (textLength (length x)) d′ ≡ textOf x → Begins (writeImage (length d) x) (Length n) d′
     unfolding writeImage
     writes-text d′ k w =
-        rw (le-leb (length x) 4096 h, le-leb (textLength (length x)) (length d) (omega arith))
+        rw (le-leb (length x) largestImage h, le-leb (textLength (length x)) (length d) (omega arith))
         (record { answers = rw (e, length-textOf x); begins = rw e w })

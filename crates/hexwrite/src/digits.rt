@@ -1,3 +1,4 @@
+// Bytes written as hexadecimal digits.
 ghost use mathlib.Core.Path.{_≡_};
 ghost use mathlib.Core.List.{_∷_, []};
 ghost use Prim.Native.Nat.{_+_, _*_, _/_, _%_, _<_, _≤_};
@@ -57,8 +58,8 @@ pub fn put_byte(digits: &[u8; 16], text: &mut [u8], at: usize, byte: u8)
     text[at + 1] = digits[(byte % 16) as usize];
 }
 
-// Writes the characters of a few bytes, for which the table is quicker.
-pub fn put_few(digits: &[u8; 16], text: &mut [u8], at: usize, bytes: &[u8])
+// Writes the characters of the bytes by the table, which is quicker for the four of a header.
+pub fn put_by_table(digits: &[u8; 16], text: &mut [u8], at: usize, bytes: &[u8])
     requires { ⌜ Digits (now digits) 16 × (at + length (now bytes) * 2 ≤ length (now text)) ⌝ }
     ensures { λ _. ⌜ WrittenAt at (spell (now (bytes .entry))) (now (text .entry)) (now (text .exit)) ⌝ }
 {
@@ -69,7 +70,7 @@ pub fn put_few(digits: &[u8; 16], text: &mut [u8], at: usize, bytes: &[u8])
     }
 }
 
-// Writes the characters of the bytes. Worked out in place, with no table and no name for the byte, many are written at once.
+// Writes the characters of the bytes. The digits are computed, not looked up, so that the loop vectorises.
 pub fn put_bytes(text: &mut [u8], at: usize, bytes: &[u8])
     requires { ⌜ at + length (now bytes) * 2 ≤ length (now text) ⌝ }
     ensures { λ _. ⌜ WrittenAt at (spell (now (bytes .entry))) (now (text .entry)) (now (text .exit)) ⌝ }

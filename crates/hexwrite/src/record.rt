@@ -1,3 +1,4 @@
+// One record written, with its checksum.
 ghost use mathlib.Core.Path.{_≡_};
 ghost use mathlib.Core.List.{_++_, _∷_, []};
 ghost use Prim.Native.Nat.{_+_, _*_, _<_, _≤_};
@@ -6,10 +7,10 @@ ghost use Rattle.hextext.specs.Written.{spell, checksum};
 ghost use Rattle.hexwrite.specs.DigitsLaws.{Digits};
 ghost use Rattle.laws.specs.BufferWrites.{WrittenAt};
 ghost use Rattle.hexwrite.specs.RecordLaws.{WroteRecord};
+use crate::digits::put_by_table;
 use crate::digits::put_byte;
 use crate::digits::put_bytes;
 use crate::digits::put_character;
-use crate::digits::put_few;
 use numbers::slices::byte_sum;
 
 // The byte that makes the sum of a record's bytes 0 modulo 256.
@@ -26,7 +27,7 @@ fn put_head(digits: &[u8; 16], text: &mut [u8], at: usize, head: &[u8])
     ensures { λ _. ⌜ WrittenAt at (58 ∷ spell (now (head .entry))) (now (text .entry)) (now (text .exit)) ⌝ }
 {
     put_character(text, at, b':');
-    put_few(digits, text, at + 1, head);
+    put_by_table(digits, text, at + 1, head);
 }
 
 // Writes the checksum and the line end.

@@ -1,37 +1,50 @@
+// The records of an image in order, and how long their text is.
 ghost use mathlib.Core.Path.{_≡_};
 ghost use Prim.Native.Nat.{_+_, _*_, _<_, _≤_};
 ghost use lib.ListN.{length, take};
+ghost use Rattle.limits.specs.Limits.{largestImage};
 ghost use Rattle.refusals.specs.RefusalsLaws.{Begins};
 ghost use Rattle.hextext.specs.Written.{textOf, textLength, writeImage};
 ghost use Rattle.hexwrite.specs.DigitsLaws.{Digits};
 use crate::digits::hex_digits;
 use crate::record::put_record;
+use limits::LARGEST_IMAGE;
 use numbers::slices::part;
 use refusals::Filled;
 use refusals::Refusal;
 
+// data bytes of a full record
+const FULL_RECORD: usize = 16;
+
+// characters of a record without data, as the end record is, and of a full one
+const EMPTY_RECORD_LENGTH: usize = 12;
+
+const FULL_RECORD_LENGTH: usize = EMPTY_RECORD_LENGTH + FULL_RECORD * 2;
+
 // How many characters the text of `count` bytes has.
 fn text_length(count: usize) -> usize
-    requires { ⌜ count ≤ 4096 ⌝ }
+    requires { ⌜ count ≤ largestImage ⌝ }
     ensures { λ r. ⌜ r ≡ textLength count ⌝ }
 {
-    if count % 16 == 0 {
-        count / 16 * 44 + 12
+    if count % FULL_RECORD == 0 {
+        count / FULL_RECORD * FULL_RECORD_LENGTH + EMPTY_RECORD_LENGTH
     } else {
-        count / 16 * 44 + (12 + count % 16 * 2) + 12
+        count / FULL_RECORD * FULL_RECORD_LENGTH
+            + (EMPTY_RECORD_LENGTH + count % FULL_RECORD * 2)
+            + EMPTY_RECORD_LENGTH
     }
 }
 
 // Writes the text of an image that has room for it.
 fn put_records(digits: &[u8; 16], image: &[u8], text: &mut [u8])
-    requires { ⌜ Digits (now digits) 16 × (length (now image) ≤ 4096) × (textLength (length (now image)) ≤ length (now text)) ⌝ }
+    requires { ⌜ Digits (now digits) 16 × (length (now image) ≤ largestImage) × (textLength (length (now image)) ≤ length (now text)) ⌝ }
     ensures { λ _. ⌜ take (textLength (length (now (image .entry)))) (now (text .exit)) ≡ textOf (now (image .entry)) ⌝ }
 {
     let mut start: usize = 0;
     let mut at: usize = 0;
     while start < image.len() {
-        at = put_record(digits, text, at, start, 0, part(image, start, 16));
-        start += 16;
+        at = put_record(digits, text, at, start, 0, part(image, start, FULL_RECORD));
+        start += FULL_RECORD;
     }
     put_record(digits, text, at, 0, 1, &image[..0]);
 }
@@ -41,7 +54,7 @@ pub fn write_records(image: &[u8], text: &mut [u8]) -> Filled
     ensures { λ r. ⌜ Begins (writeImage (length (now (text .entry))) (now (image .entry))) r (now (text .exit)) ⌝ }
 {
     let size = image.len();
-    if 4096 < size {
+    if LARGEST_IMAGE < size {
         return Filled::Refused(Refusal {
             number: 4,
             detail: 0,

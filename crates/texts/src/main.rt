@@ -1,6 +1,10 @@
 // Reads the texts of data/, which others' tools wrote, and prints what the writer makes of each image, or the refusal.
+use limits::LARGEST_IMAGE;
+use limits::LONGEST_SHOWN_TEXT;
 use refusals::Filled;
 use refusals::Refusal;
+
+const LONGEST_WRITTEN_TEXT: usize = LARGEST_IMAGE / 16 * 44 + 12;
 
 fn print_refusal(refusal: Refusal) {
     io::write_all(1, b"refused ");
@@ -11,7 +15,7 @@ fn print_refusal(refusal: Refusal) {
 }
 
 fn print_written(image: &[u8]) {
-    let mut buffer = [0u8; 11276];
+    let mut buffer = [0u8; LONGEST_WRITTEN_TEXT];
     match hexwrite::write(image, &mut buffer) {
         Filled::Length(length) => {
             io::write_all(1, numbers::slices::part(&buffer, 0, length));
@@ -21,7 +25,7 @@ fn print_written(image: &[u8]) {
 }
 
 fn print_read(text: &[u8]) {
-    let mut buffer = [0u8; 4096];
+    let mut buffer = [0u8; LARGEST_IMAGE];
     match hexread::read(text, &mut buffer) {
         Filled::Length(length) => print_written(numbers::slices::part(&buffer, 0, length)),
         Filled::Refused(refusal) => print_refusal(refusal),
@@ -36,7 +40,7 @@ fn print_file(name: &[u8]) {
         os::fail(name);
         return;
     }
-    let mut text = [0u8; 65537];
+    let mut text = [0u8; LONGEST_SHOWN_TEXT + 1];
     let length = io::read_full(file, &mut text);
     print_read(&text[..length]);
 }

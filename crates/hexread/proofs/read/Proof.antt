@@ -3,9 +3,6 @@ use Rattle.refusals.specs.RefusalsLaws.{settled-fills}
 use Rattle.hexread.proofs.read.Statement.{statement}
 use Rattle.hexread.proofs.read.Tie as tie
 
-values-requires : tie.Need-values-requires
-values-requires c κs = search needs
-
 read-lines-requires : tie.Need-read-lines-requires
 read-lines-requires c κs = search needs
 
@@ -20,4 +17,4 @@ returns c = search (needs, settled-fills)
 
 pub read-spec : {M : Type 1} → statement M
 read-spec =
-    tie.close (tie.spec values-requires read-lines-requires settled-requires same-length returns)
+    tie.close (tie.spec read-lines-requires settled-requires same-length returns)

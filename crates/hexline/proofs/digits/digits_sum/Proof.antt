@@ -1,14 +1,14 @@
 use borrow.Author.Needs.{needs}
 use Prim.Native.Nat.{_-_}
-use Rattle.hexline.specs.PairsLaws.{Adding, adding-first, sum-odd, sum-more, sum-failed, sum-all}
+use Rattle.hexline.specs.PairsLaws.{AddingPairs, adding-first, sum-odd, sum-more, sum-failed, sum-all}
 use Rattle.hexline.proofs.digits.digits_sum.Statement.{statement}
 use Rattle.hexline.proofs.digits.digits_sum.Tie as tie
 
 abbrev Inv-loop : tie.InvT-loop
-Inv-loop characters count sum₀ worst₀ i₀ sum worst i = Adding characters 0 count sum worst i
+Inv-loop characters count sum₀ worst₀ i₀ sum largest i = AddingPairs characters 0 count sum largest i
 
 abbrev μ-loop : tie.MeasureT-loop
-μ-loop characters count sum₀ worst₀ i₀ sum worst i = count - i
+μ-loop characters count sum₀ worst₀ i₀ sum largest i = count - i
 
 returns : tie.Need-returns Inv-loop μ-loop
 returns c = search (needs, sum-odd)

@@ -1,12 +1,12 @@
 use borrow.Author.Needs.{needs}
 use Prim.Native.Nat.{_-_}
 use lib.ListN.{length}
-use Rattle.hexline.specs.EndsLaws.{Before, before-first, before-more, before-lf, before-end}
+use Rattle.hexline.specs.EndsLaws.{NoLineFeedBefore, before-first, before-more, before-lf, before-end}
 use Rattle.hexline.proofs.ends.line_length.Statement.{statement}
 use Rattle.hexline.proofs.ends.line_length.Tie as tie
 
 abbrev Inv-loop : tie.InvT-loop
-Inv-loop text i₀ i = Before text i
+Inv-loop text i₀ i = NoLineFeedBefore text i
 
 abbrev μ-loop : tie.MeasureT-loop
 μ-loop text i₀ i = length text - i

@@ -1,7 +1,7 @@
 use mathlib.Core.Path.{refl}
 use borrow.Author.Needs.{needs}
 use Rattle.hextext.specs.Record.{digit}
-use Rattle.hexread.specs.DigitsLaws.{isValue, valueOf, valued-by-test}
+use Rattle.hexread.specs.DigitsLaws.{isValue, valueOf, digit-values-by-test}
 use Rattle.hexread.proofs.digits.values.Statement.{statement}
 use Rattle.hexread.proofs.digits.values.Tie as tie
 
@@ -73,7 +73,7 @@ array-write-values-22 c = search needs
 
 returns : tie.Need-returns
 unfolding isValue valueOf digit
-returns c = valued-by-test _ refl tt
+returns c = digit-values-by-test _ refl tt
 
 pub values-spec : {M : Type 1} → statement M
 values-spec =

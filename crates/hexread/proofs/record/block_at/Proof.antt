@@ -1,17 +1,17 @@
 use Prim.Native.Nat.{_-_}
 use borrow.Author.Needs.{needs}
-use Rattle.hexread.specs.BlockLaws.{Taking, taking-first, taking-more, taking-end}
+use Rattle.hexread.specs.BlockLaws.{CharactersCopied, copied-first, copied-more, copied-end}
 use Rattle.hexread.proofs.record.block_at.Statement.{statement}
 use Rattle.hexread.proofs.record.block_at.Tie as tie
 
 abbrev Inv-loop : tie.InvT-loop
-Inv-loop line from characters₀ i₀ characters i = Taking line from characters i
+Inv-loop line from characters₀ i₀ characters i = CharactersCopied line from characters i
 
 abbrev μ-loop : tie.MeasureT-loop
 μ-loop line from characters₀ i₀ characters i = 32 - i
 
 loop-holds : tie.Need-loop-holds Inv-loop μ-loop
-loop-holds c = search (needs, taking-first)
+loop-holds c = search (needs, copied-first)
 
 add-characters : tie.Need-add-characters Inv-loop μ-loop
 add-characters c = search needs
@@ -29,10 +29,10 @@ loop-less : tie.Need-loop-less Inv-loop μ-loop
 loop-less c = search needs
 
 loop-again : tie.Need-loop-again Inv-loop μ-loop
-loop-again c = search (needs, taking-more)
+loop-again c = search (needs, copied-more)
 
 returns : tie.Need-returns Inv-loop μ-loop
-returns c = search (needs, taking-end)
+returns c = search (needs, copied-end)
 
 pub block-at-spec : {M : Type 1} → statement M
 block-at-spec =

@@ -1,19 +1,19 @@
 use Prim.Native.Nat.{_+_, _-_, _*_}
 use borrow.Author.Needs.{needs}
 use denote.Ref.{now}
-use Rattle.hexread.specs.PairsLaws.{Putting, putting-first, putting-block, putting-block-failed, putting-rest}
-use Rattle.hexread.specs.BlockLaws.{put-of-block}
+use Rattle.hexread.specs.PairsLaws.{WritingPairs, writing-first, writing-block, writing-block-failed, writing-rest}
+use Rattle.hexread.specs.BlockLaws.{written-of-block}
 use Rattle.hexread.proofs.record.put_data.Statement.{statement}
 use Rattle.hexread.proofs.record.put_data.Tie as tie
 
 abbrev Inv-loop : tie.InvT-loop
-Inv-loop line count image₀ to sum₀ i₀ image sum i = Putting line 9 count image₀ image to sum 0 i
+Inv-loop line count image₀ to sum₀ i₀ image sum i = WritingPairs line 9 count image₀ image to sum 0 i
 
 abbrev μ-loop : tie.MeasureT-loop
 μ-loop line count image₀ to sum₀ i₀ image sum i = count - i
 
 loop-holds : tie.Need-loop-holds Inv-loop μ-loop
-loop-holds c = search (needs, putting-first)
+loop-holds c = search (needs, writing-first)
 
 sub-loop : tie.Need-sub-loop Inv-loop μ-loop
 sub-loop c = search needs
@@ -45,8 +45,8 @@ returns c =
     let block = put .before .before .before in
     let turn = block .before .before in
     let line = turn .before .before .before .args .line in
-    let p = put-of-block (now line) (9 + turn .loop .i * 2) 16 _ (block .block-at .ensures) (search needs) _ _ _ _ (put .put-pairs .ensures) in
-    search (needs, putting-block-failed)
+    let p = written-of-block (now line) (9 + turn .loop .i * 2) 16 _ (block .block-at .ensures) (search needs) _ _ _ _ (put .put-pairs .ensures) in
+    search (needs, writing-block-failed)
 
 add-sum : tie.Need-add-sum Inv-loop μ-loop
 add-sum c = search needs
@@ -63,8 +63,8 @@ loop-again c =
     let block = put .before .before .before in
     let turn = block .before .before in
     let line = turn .before .before .before .args .line in
-    let p = put-of-block (now line) (9 + turn .loop .i * 2) 16 _ (block .block-at .ensures) (search needs) _ _ _ _ (put .put-pairs .ensures) in
-    search (needs, putting-block)
+    let p = written-of-block (now line) (9 + turn .loop .i * 2) 16 _ (block .block-at .ensures) (search needs) _ _ _ _ (put .put-pairs .ensures) in
+    search (needs, writing-block)
 
 mul-put-pairs : tie.Need-mul-put-pairs Inv-loop μ-loop
 mul-put-pairs c = search needs
@@ -85,7 +85,7 @@ same-length-2 : tie.Need-same-length-2 Inv-loop μ-loop
 same-length-2 c = search needs
 
 returns-2 : tie.Need-returns-2 Inv-loop μ-loop
-returns-2 c = search (needs, putting-block-failed)
+returns-2 c = search (needs, writing-block-failed)
 
 add-result : tie.Need-add-result Inv-loop μ-loop
 add-result c = search needs
@@ -94,7 +94,7 @@ same-length-3 : tie.Need-same-length-3 Inv-loop μ-loop
 same-length-3 c = search needs
 
 returns-3 : tie.Need-returns-3 Inv-loop μ-loop
-returns-3 c = search (needs, putting-rest)
+returns-3 c = search (needs, writing-rest)
 
 pub put-data-spec : {M : Type 1} → statement M
 put-data-spec =

@@ -1,17 +1,17 @@
 use Prim.Native.Nat.{_-_}
 use borrow.Author.Needs.{needs}
-use Rattle.hexread.specs.PairsLaws.{Putting, putting-first, putting-more, putting-failed, putting-end}
+use Rattle.hexread.specs.PairsLaws.{WritingPairs, writing-first, writing-more, writing-failed, writing-end}
 use Rattle.hexread.proofs.record.put_pairs.Statement.{statement}
 use Rattle.hexread.proofs.record.put_pairs.Tie as tie
 
 abbrev Inv-loop : tie.InvT-loop
-Inv-loop line from count image₀ to sum₀ worst₀ i₀ image sum worst i = Putting line from count image₀ image to sum worst i
+Inv-loop line from count image₀ to sum₀ worst₀ i₀ image sum largest i = WritingPairs line from count image₀ image to sum largest i
 
 abbrev μ-loop : tie.MeasureT-loop
-μ-loop line from count image₀ to sum₀ worst₀ i₀ image sum worst i = count - i
+μ-loop line from count image₀ to sum₀ worst₀ i₀ image sum largest i = count - i
 
 loop-holds : tie.Need-loop-holds Inv-loop μ-loop
-loop-holds c = search (needs, putting-first)
+loop-holds c = search (needs, writing-first)
 
 mul-digit : tie.Need-mul-digit Inv-loop μ-loop
 mul-digit c = search needs
@@ -65,13 +65,13 @@ loop-less : tie.Need-loop-less Inv-loop μ-loop
 loop-less c = search needs
 
 loop-again : tie.Need-loop-again Inv-loop μ-loop
-loop-again c = search (needs, putting-more)
+loop-again c = search (needs, writing-more)
 
 same-length : tie.Need-same-length Inv-loop μ-loop
 same-length c = search needs
 
 returns : tie.Need-returns Inv-loop μ-loop
-returns c = search (needs, putting-failed)
+returns c = search (needs, writing-failed)
 
 cast-result : tie.Need-cast-result Inv-loop μ-loop
 cast-result c = search needs
@@ -80,7 +80,7 @@ same-length-2 : tie.Need-same-length-2 Inv-loop μ-loop
 same-length-2 c = search needs
 
 returns-2 : tie.Need-returns-2 Inv-loop μ-loop
-returns-2 c = search (needs, putting-end)
+returns-2 c = search (needs, writing-end)
 
 pub put-pairs-spec : {M : Type 1} → statement M
 put-pairs-spec =

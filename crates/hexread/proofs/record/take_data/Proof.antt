@@ -1,5 +1,5 @@
 use borrow.Author.Needs.{needs}
-use Rattle.hexread.specs.BlockLaws.{took-none}
+use Rattle.hexread.specs.BlockLaws.{taken-no-room}
 use Rattle.hexread.proofs.record.take_data.Statement.{statement}
 use Rattle.hexread.proofs.record.take_data.Tie as tie
 
@@ -31,7 +31,7 @@ digits-sum-requires : tie.Need-digits-sum-requires
 digits-sum-requires c κs = search needs
 
 returns-2 : tie.Need-returns-2
-returns-2 c = search (needs, took-none)
+returns-2 c = search (needs, taken-no-room)
 
 pub take-data-spec : {M : Type 1} → statement M
 take-data-spec =

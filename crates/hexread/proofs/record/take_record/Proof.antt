@@ -1,5 +1,5 @@
 use borrow.Author.Needs.{needs}
-use Rattle.hexread.specs.RecordLaws.{taken-bad, taken-bad-sum, taken-typed}
+use Rattle.hexread.specs.RecordLaws.{taken-by-parts}
 use Rattle.hexread.proofs.record.take_record.Statement.{statement}
 use Rattle.hexread.proofs.record.take_record.Tie as tie
 
@@ -27,52 +27,14 @@ add-pair c = search needs
 pair-requires-4 : tie.Need-pair-requires-4
 pair-requires-4 c κs = (search needs, search needs)
 
-worst-requires : tie.Need-worst-requires
-worst-requires c κs = search needs
+judge-parts-requires : tie.Need-judge-parts-requires
+judge-parts-requires c κs = search needs
 
 same-length : tie.Need-same-length
 same-length c = search needs
 
 returns : tie.Need-returns
-returns c =
-    let took = c .before .before .before .before .before in
-    taken-bad _ _ (search) _ _ _ _ _ _ _ _ _ (search) (search) (search) (took .take-data .ensures) (search) _ (c .before .worst .ensures) (search)
-
-add-if2 : tie.Need-add-if2
-add-if2 c = search needs
-
-add-if2-2 : tie.Need-add-if2-2
-add-if2-2 c = search needs
-
-add-if2-3 : tie.Need-add-if2-3
-add-if2-3 c = search needs
-
-add-if2-4 : tie.Need-add-if2-4
-add-if2-4 c = search needs
-
-add-if2-5 : tie.Need-add-if2-5
-add-if2-5 c = search needs
-
-same-length-2 : tie.Need-same-length-2
-same-length-2 c = search needs
-
-returns-2 : tie.Need-returns-2
-returns-2 c = taken-bad-sum _ _ (search) _ _ _ _ _ _ _ _ _ (search) (search) (search) (search) (search) _ (c .before .before .worst .ensures) (search) (c .if2 .taken)
-
-mul-address : tie.Need-mul-address
-mul-address c = search needs
-
-add-address : tie.Need-add-address
-add-address c = search needs
-
-judge-header-requires : tie.Need-judge-header-requires
-judge-header-requires c κs = search needs
-
-same-length-3 : tie.Need-same-length-3
-same-length-3 c = search needs
-
-returns-3 : tie.Need-returns-3
-returns-3 c = taken-typed _ _ (search) _ _ _ _ _ _ _ _ _ (search) (search) (search) (search) (search) _ (c .before .before .before .worst .ensures) (search) _ (c .before .if2 .left) (c .judge-header .ensures) (search) (search)
+returns c = search (needs, taken-by-parts)
 
 pub take-record-spec : {M : Type 1} → statement M
 take-record-spec =
@@ -86,18 +48,6 @@ take-record-spec =
     mul-pair
     add-pair
     pair-requires-4
-    worst-requires
+    judge-parts-requires
     same-length
-    returns
-    add-if2
-    add-if2-2
-    add-if2-3
-    add-if2-4
-    add-if2-5
-    same-length-2
-    returns-2
-    mul-address
-    add-address
-    judge-header-requires
-    same-length-3
-    returns-3)
+    returns)

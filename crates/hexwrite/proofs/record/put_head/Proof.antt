@@ -8,11 +8,11 @@ ruleset laws = (needs, wrote-head)
 put-character-requires : tie.Need-put-character-requires
 put-character-requires c κs = search laws
 
-add-put-few : tie.Need-add-put-few
-add-put-few c = search laws
+add-put-by-table : tie.Need-add-put-by-table
+add-put-by-table c = search laws
 
-put-few-requires : tie.Need-put-few-requires
-put-few-requires c κs = search laws
+put-by-table-requires : tie.Need-put-by-table-requires
+put-by-table-requires c κs = search laws
 
 same-length : tie.Need-same-length
 same-length c = search laws
@@ -23,4 +23,4 @@ returns c = search laws
 pub put-head-spec : {M : Type 1} → statement M
 put-head-spec =
     tie.close
-    (tie.spec put-character-requires add-put-few put-few-requires same-length returns)
+    (tie.spec put-character-requires add-put-by-table put-by-table-requires same-length returns)

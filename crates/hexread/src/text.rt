@@ -1,32 +1,50 @@
+// The whole text, line by line.
 ghost use mathlib.Core.Path.{_≡_};
 ghost use Prim.Native.Nat.{min};
 ghost use lib.ListN.{length};
+ghost use Rattle.limits.specs.Limits.{largestImage};
+ghost use Rattle.refusals.specs.declared.Filled.the-variants.{Refused};
+ghost use Rattle.refusals.specs.Refusals.{refusal};
 ghost use Rattle.refusals.specs.RefusalsLaws.{Begins};
 ghost use Rattle.hextext.specs.Text.{readText};
-ghost use Rattle.hexread.specs.DigitsLaws.{Valued};
+use crate::digits::values;
 use crate::line::Step;
 use crate::line::first_line;
+use limits::LARGEST_IMAGE;
 use refusals::Filled;
 use refusals::Refusal;
 
 // The room that a buffer of `size` bytes gives an image.
 fn room_in(size: usize) -> usize
-    ensures { λ r. ⌜ r ≡ min 4096 size ⌝ }
+    ensures { λ r. ⌜ r ≡ min largestImage size ⌝ }
 {
-    if size < 4096 { size } else { 4096 }
+    if size < LARGEST_IMAGE {
+        size
+    } else {
+        LARGEST_IMAGE
+    }
+}
+
+fn refused(number: u32, line: u64) -> Filled
+    ensures { λ r. ⌜ r ≡ Refused (refusal number line) ⌝ }
+{
+    Filled::Refused(Refusal {
+        number,
+        detail: line,
+    })
 }
 
 // Reads the text into the image from its start. What stands after the result is anything.
-pub fn read_lines(values: &[usize; 256], text: &[u8], image: &mut [u8]) -> Filled
-    requires { ⌜ Valued (now values) ⌝ }
+pub fn read_lines(text: &[u8], image: &mut [u8]) -> Filled
     ensures { λ r. ⌜ Begins (readText (length (now (image .entry))) (now (text .entry))) r (now (image .exit)) ⌝ }
 {
+    let values = values();
     let room = room_in(image.len());
     let mut start: usize = 0;
     let mut size: usize = 0;
     let mut line: u64 = 1;
     while start < text.len() {
-        match first_line(values, &text[start..], image, size, room) {
+        match first_line(&values, &text[start..], image, size, room) {
             Step::More(written, next) => {
                 size += written;
                 start += next;
@@ -36,22 +54,12 @@ pub fn read_lines(values: &[usize; 256], text: &[u8], image: &mut [u8]) -> Fille
                 if start + next == text.len() {
                     return Filled::Length(size);
                 }
-                let after = line + 1;
-                return Filled::Refused(Refusal {
-                    number: 1,
-                    detail: after,
-                });
+                return refused(1, line + 1);
             }
             Step::Stop(number) => {
-                return Filled::Refused(Refusal {
-                    number,
-                    detail: line,
-                });
+                return refused(number, line);
             }
         }
     }
-    Filled::Refused(Refusal {
-        number: 1,
-        detail: line,
-    })
+    refused(1, line)
 }

@@ -8,13 +8,14 @@ use lib.ListN.{length, take, drop, drop-of-length-le, length-drop}
 use lib.Seq.{drop-drop, length-take-le, take-all}
 use mir.Val.{Fits}
 use mir.Syntax.{w64}
+use Rattle.limits.specs.Limits.{largestImage}
 use Rattle.refusals.specs.declared.Filled.the-variants.{Length, Refused}
 use Rattle.refusals.specs.Refusals.{Outcome, result, refused, refusal}
 use Rattle.refusals.specs.RefusalsLaws.{Begins}
 use Rattle.hextext.specs.Text.{reading, readText}
 use Rattle.hexread.specs.declared.line.Step.{Step}
 use Rattle.hexread.specs.declared.line.Step.the-variants.{More, Last, Stop}
-use Rattle.hexread.specs.LineLaws.{Stepped}
+use Rattle.hexread.specs.LineLaws.{FirstLineRead}
 
 -- the text from i on, as `&text[i..]` is said
 abbrev rest-of : List ℕ → ℕ → List ℕ
@@ -25,11 +26,11 @@ pub record Reading (t d₀ : List ℕ) (room : ℕ) (d : List ℕ) (start size l
   pub within : start ≤ length t
   pub lines : line ≤ start + 1
   pub sized : size ≤ room
-  pub roomy : room ≡ min 4096 (length d₀)
+  pub roomy : room ≡ min largestImage (length d₀)
   pub kept : length d ≡ length d₀
   pub reads : readText (length d₀) t ≡ reading room line (take size d) [] (drop start t)
 
-pub reading-first : (t d : List ℕ) (room : ℕ) → room ≡ min 4096 (length d) → Reading t d room d 0 0 1
+pub reading-first : (t d : List ℕ) (room : ℕ) → room ≡ min largestImage (length d) → Reading t d room d 0 0 1
 unfolding readText
 reading-first t d room e = record { within = omega arith; lines = omega arith; sized = omega arith; roomy = e; kept = refl; reads = rw e }
 
@@ -45,8 +46,8 @@ module _ (t d₀ : List ℕ) (room : ℕ) (d : List ℕ) (start size line : ℕ)
   unfolding reading
   reading-stops k = begins-refused (readText (length d₀) t) 1 line d (rw (h .reads, drop-of-length-le t k))
 
-  module _ (r : Step) (d′ : List ℕ) (same-length : length d′ ≡ length d) (s : Stepped r (rest-of t start) d d′ room size) where
-    step : Stepped r (drop start t) d d′ room size
+  module _ (r : Step) (d′ : List ℕ) (same-length : length d′ ≡ length d) (s : FirstLineRead r (rest-of t start) d d′ room size) where
+    step : FirstLineRead r (drop start t) d d′ room size
     step = rw (take-all (length t - start) (drop start t) (le-of-eq (length-drop start t))) at s
 
     left : length (drop start t) ≡ length t - start

@@ -1,7 +1,7 @@
 use borrow.Author.Needs.{needs}
-use Rattle.hexline.specs.LineLaws.{data-none, data-there}
-use Rattle.hexline.proofs.line.data_byte.Statement.{statement}
-use Rattle.hexline.proofs.line.data_byte.Tie as tie
+use Rattle.hexline.specs.JudgeLaws.{data-none, data-there}
+use Rattle.hexline.proofs.judge.data_byte.Statement.{statement}
+use Rattle.hexline.proofs.judge.data_byte.Tie as tie
 
 byte-at-requires : tie.Need-byte-at-requires
 byte-at-requires c κs = search needs

@@ -1,15 +1,18 @@
 use Prim.Native.Nat.{_-_}
 use borrow.Author.Needs.{needs}
 use lib.ListN.{length}
-use Rattle.hexread.specs.LinesLaws.{Reading, reading-first, reading-stops, reading-refused, reading-done, reading-overrun, next-fits, start-fits, size-fits, start-less, reading-more}
-use Rattle.hexread.proofs.lines.read_lines.Statement.{statement}
-use Rattle.hexread.proofs.lines.read_lines.Tie as tie
+use Rattle.hexread.specs.TextLaws.{Reading, reading-first, reading-stops, reading-refused, reading-done, reading-overrun, next-fits, start-fits, size-fits, start-less, reading-more}
+use Rattle.hexread.proofs.text.read_lines.Statement.{statement}
+use Rattle.hexread.proofs.text.read_lines.Tie as tie
 
 abbrev Inv-loop : tie.InvT-loop
-Inv-loop values text image₀ room start₀ size₀ line₀ image start size line = Reading text image₀ room image start size line
+Inv-loop text image₀ values room start₀ size₀ line₀ image start size line = Reading text image₀ room image start size line
 
 abbrev μ-loop : tie.MeasureT-loop
-μ-loop values text image₀ room start₀ size₀ line₀ image start size line = length text - start
+μ-loop text image₀ values room start₀ size₀ line₀ image start size line = length text - start
+
+values-requires : tie.Need-values-requires Inv-loop μ-loop
+values-requires c κs = search needs
 
 room-in-requires : tie.Need-room-in-requires Inv-loop μ-loop
 room-in-requires c κs = search needs
@@ -59,29 +62,38 @@ same-length c = search needs
 returns : tie.Need-returns Inv-loop μ-loop
 returns c = search (needs, reading-done)
 
-add-after : tie.Need-add-after Inv-loop μ-loop
-add-after c = search needs
+add-refused : tie.Need-add-refused Inv-loop μ-loop
+add-refused c = search needs
+
+refused-requires : tie.Need-refused-requires Inv-loop μ-loop
+refused-requires c κs = search needs
 
 same-length-2 : tie.Need-same-length-2 Inv-loop μ-loop
 same-length-2 c = search needs
 
 returns-2 : tie.Need-returns-2 Inv-loop μ-loop
-returns-2 c = search (needs, reading-overrun)
+returns-2 c = rw (c .refused .ensures) (search (needs, reading-overrun))
 
 enum-known-number : tie.Need-enum-known-number Inv-loop μ-loop
 enum-known-number c = search needs
+
+refused-requires-2 : tie.Need-refused-requires-2 Inv-loop μ-loop
+refused-requires-2 c κs = search needs
 
 same-length-3 : tie.Need-same-length-3 Inv-loop μ-loop
 same-length-3 c = search needs
 
 returns-3 : tie.Need-returns-3 Inv-loop μ-loop
-returns-3 c = reading-refused _ _ _ _ _ _ _ (c .before .before .before .before .before .before .before .before .before .loop .inv) _ _ (search) (c .before .before .before .before .before .first-line .ensures) _ (search)
+returns-3 c = rw (c .refused2 .ensures) (search (needs, reading-refused))
+
+refused-requires-3 : tie.Need-refused-requires-3 Inv-loop μ-loop
+refused-requires-3 c κs = search needs
 
 same-length-4 : tie.Need-same-length-4 Inv-loop μ-loop
 same-length-4 c = search needs
 
 returns-4 : tie.Need-returns-4 Inv-loop μ-loop
-returns-4 c = search (needs, reading-stops)
+returns-4 c = rw (c .refused3 .ensures) (search (needs, reading-stops))
 
 pub read-lines-spec : {M : Type 1} → statement M
 read-lines-spec =
@@ -89,6 +101,7 @@ read-lines-spec =
     (tie.spec
     Inv-loop
     μ-loop
+    values-requires
     room-in-requires
     loop-holds
     sub-first-line
@@ -105,11 +118,14 @@ read-lines-spec =
     add-if1
     same-length
     returns
-    add-after
+    add-refused
+    refused-requires
     same-length-2
     returns-2
     enum-known-number
+    refused-requires-2
     same-length-3
     returns-3
+    refused-requires-3
     same-length-4
     returns-4)

@@ -2,8 +2,8 @@ use Prim.Native.Nat.{_-_}
 use borrow.Author.Needs.{needs}
 use lib.ListN.{length}
 use Rattle.hexwrite.specs.DigitsLaws.{WritingBytes, writing-bytes-first, writing-bytes-more, writing-bytes-end}
-use Rattle.hexwrite.proofs.digits.put_few.Statement.{statement}
-use Rattle.hexwrite.proofs.digits.put_few.Tie as tie
+use Rattle.hexwrite.proofs.digits.put_by_table.Statement.{statement}
+use Rattle.hexwrite.proofs.digits.put_by_table.Tie as tie
 
 ruleset laws = (needs, writing-bytes-first, writing-bytes-more, writing-bytes-end)
 
@@ -43,8 +43,8 @@ same-length c = search laws
 returns : tie.Need-returns Inv-loop μ-loop
 returns c = search laws
 
-pub put-few-spec : {M : Type 1} → statement M
-put-few-spec =
+pub put-by-table-spec : {M : Type 1} → statement M
+put-by-table-spec =
     tie.close
     (tie.spec
     Inv-loop

@@ -18,12 +18,12 @@ use Rattle.hexformat.specs.SpelledLaws.{digit-of}
 use Rattle.hexformat.specs.SumLaws.{same-digit, same-bytes, same-either-way, same-bytes-exchanged}
 use Rattle.hexformat.specs.BareLaws.{snoc, bare-return, bare-append, bare-on, bare-last}
 use Rattle.hexformat.specs.ReadingLaws.{refused-not, same-result, ended}
-use Rattle.hexformat.specs.PartLaws.{digit-inside, return-inside, formed-odd, longer-by-one, Sound, sound-line, no-empty-line, starts-colon, no-colon, reads-on, Part, part-good}
+use Rattle.hexformat.specs.DifferenceLaws.{digit-inside, return-inside, formed-odd, longer-by-one, GoodRecord, read-line-good, no-empty-line, starts-colon, no-colon, reads-on, UpToDifference, good-up-to-difference}
 
--- ---- they part at a character each
+-- ---- they differ in one character
 
 module _ (b c : ℕ) (differ : b ≡ c → ⊥) where
-  alike : (u w : List ℕ) → Sound (u ++ b ∷ w) → Sound (u ++ c ∷ w) → SameDigit b c × (recordBytes (u ++ b ∷ w) ≡ recordBytes (u ++ c ∷ w))
+  alike : (u w : List ℕ) → GoodRecord (u ++ b ∷ w) → GoodRecord (u ++ c ∷ w) → SameDigit b c × (recordBytes (u ++ b ∷ w) ≡ recordBytes (u ++ c ∷ w))
   unfolding recordBytes
   alike [] w s t = absurd (differ (formed-colon (b ∷ w) (s .well-formed) ∙ sym (formed-colon (c ∷ w) (t .well-formed))))
   alike (a ∷ u) w s t =
@@ -35,7 +35,7 @@ module _ (b c : ℕ) (differ : b ≡ c → ⊥) where
       let e : digit b ≡ digit c = same-digit u w b c n h k long long′ (s .balanced) (t .balanced) in
       (record { value = digit c; first = digit-of b (digit c) e k; second = digit-of c (digit c) refl k }, same-bytes u w b c e)
 
-  alike-bare : (u v : List ℕ) → Sound (bare (u ++ b ∷ v)) → Sound (bare (u ++ c ∷ v))
+  alike-bare : (u v : List ℕ) → GoodRecord (bare (u ++ b ∷ v)) → GoodRecord (bare (u ++ c ∷ v))
       → SameDigit b c × (recordBytes (bare (u ++ b ∷ v)) ≡ recordBytes (bare (u ++ c ∷ v)))
   alike-bare u (d ∷ v) s t = rw (bare-on u v b d, bare-on u v c d) (alike u (bare (d ∷ v)) (rw (bare-on u v b d) at s) (rw (bare-on u v c d) at t))
   alike-bare u [] s t =
@@ -55,7 +55,7 @@ module _ (b c : ℕ) (differ : b ≡ c → ⊥) where
       rw (l, m) (alike u [] (rw l at s) (rw m at t))))
 
 -- a line that is read, with a colon after it
-colon-after : (room line : ℕ) (image u text z : List ℕ) → Sound (bare u) → reading room line image (u ++ 58 ∷ []) text ≡ result z → ⊥
+colon-after : (room line : ℕ) (image u text z : List ℕ) → GoodRecord (bare u) → reading room line image (u ++ 58 ∷ []) text ≡ result z → ⊥
 colon-after room line image [] text z s e = no-empty-line (s .well-formed)
 colon-after room line image (a ∷ u) text z s e = no-colon room line image a u [] text z e
 
@@ -80,7 +80,8 @@ same-judged room at l m f g e = rw (f, g, e)
 -- p and q are what was passed of the line in each text; wherever the line ends, they say the same
 module _
     {X : Type 0} (p q : List ℕ)
-    (alike-from : (v : List ℕ) → Sound (bare (p ++ v)) → Sound (bare (q ++ v)) → X × (recordBytes (bare (p ++ v)) ≡ recordBytes (bare (q ++ v)))) where
+    (alike-from : (v : List ℕ) → GoodRecord (bare (p ++ v)) → GoodRecord (bare (q ++ v))
+    → X × (recordBytes (bare (p ++ v)) ≡ recordBytes (bare (q ++ v)))) where
   in-line : (room line : ℕ) (image v text y z : List ℕ) → reading room line image (p ++ v) text ≡ result y
       → reading room line image (q ++ v) text ≡ result z → X × (z ≡ y)
   unfolding reading
@@ -90,15 +91,18 @@ module _
       (λ (t : eqb a 10 ≡ true).
       let l : List ℕ = bare (p ++ v) in
       let m : List ℕ = bare (q ++ v) in
-      let s = sound-line room line image (p ++ v) text y (rw t at e) in
-      let s′ = sound-line room line image (q ++ v) text z (rw t at f) in
+      let s = read-line-good room line image (p ++ v) text y (rw t at e) in
+      let s′ = read-line-good room line image (q ++ v) text z (rw t at f) in
       let k = alike-from v s s′ in
       let j : judge room (length image) m ≡ judge room (length image) l = same-judged room (length image) l m (s .well-formed) (s′ .well-formed) (k .1) in
       (k .0, same-result (sym (rw (t, j, ← (k .1)) at f) ∙ rw t at e)))
-      (λ (t : eqb a 10 ≡ false). in-line room line image (v ++ a ∷ []) text y z (rw (t, append-assoc p v (a ∷ [])) at e) (rw (t, append-assoc q v (a ∷ [])) at f))
+      (λ (t : eqb a 10 ≡ false).
+      let e′ = rw (t, append-assoc p v (a ∷ [])) at e in
+      let f′ = rw (t, append-assoc q v (a ∷ [])) at f in
+      in-line room line image (v ++ a ∷ []) text y z e′ f′)
 
 module _ (room b c : ℕ) (differ : b ≡ c → ⊥) where
-  at-place : (rest y z : List ℕ) → Part room (b ∷ rest) (c ∷ rest) y z → SameDigit b c × (z ≡ y)
+  at-place : (rest y z : List ℕ) → UpToDifference room (b ∷ rest) (c ∷ rest) y z → SameDigit b c × (z ≡ y)
   unfolding reading
   at-place rest y z p =
       decide (eqb b 10)
@@ -118,12 +122,12 @@ module _ (room b c : ℕ) (differ : b ≡ c → ⊥) where
 pub one-apart : (image other before rest : List ℕ) (b c : ℕ) → GoodText image (before ++ b ∷ rest) → GoodText other (before ++ c ∷ rest) → (b ≡ c → ⊥)
     → SameDigit b c × (other ≡ image)
 one-apart image other before rest b c g g′ differ =
-    at-place (length image + length other) b c differ rest image other (part-good before (b ∷ rest) (c ∷ rest) g g′ (omega arith))
+    at-place (length image + length other) b c differ rest image other (good-up-to-difference before (b ∷ rest) (c ∷ rest) g g′ (omega arith))
 
--- ---- they part at two characters exchanged
+-- ---- they differ in two characters exchanged
 
 module _ (b c : ℕ) (differ : b ≡ c → ⊥) where
-  exchanged-alike : (u w : List ℕ) → Sound (u ++ b ∷ c ∷ w) → Sound (u ++ c ∷ b ∷ w)
+  exchanged-alike : (u w : List ℕ) → GoodRecord (u ++ b ∷ c ∷ w) → GoodRecord (u ++ c ∷ b ∷ w)
       → SameDigit b c × (recordBytes (u ++ b ∷ c ∷ w) ≡ recordBytes (u ++ c ∷ b ∷ w))
   unfolding recordBytes
   exchanged-alike [] w s t = absurd (differ (formed-colon (b ∷ c ∷ w) (s .well-formed) ∙ sym (formed-colon (c ∷ b ∷ w) (t .well-formed))))
@@ -144,7 +148,7 @@ bare-two-last : (u : List ℕ) (b c : ℕ) → (c ≡ 13 → ⊥) → bare (u ++
 bare-two-last u b c h = rw (append-assoc u (b ∷ []) (c ∷ [])) at (bare-last (u ++ b ∷ []) c h)
 
 module _ (b c : ℕ) (differ : b ≡ c → ⊥) where
-  exchanged-bare : (u v : List ℕ) → Sound (bare (u ++ b ∷ c ∷ v)) → Sound (bare (u ++ c ∷ b ∷ v))
+  exchanged-bare : (u v : List ℕ) → GoodRecord (bare (u ++ b ∷ c ∷ v)) → GoodRecord (bare (u ++ c ∷ b ∷ v))
       → SameDigit b c × (recordBytes (bare (u ++ b ∷ c ∷ v)) ≡ recordBytes (bare (u ++ c ∷ b ∷ v)))
   exchanged-bare u (d ∷ v) s t =
       rw (bare-two u v b c d, bare-two u v c b d) (exchanged-alike b c differ u (bare (d ∷ v)) (rw (bare-two u v b c d) at s) (rw (bare-two u v c b d) at t))
@@ -167,10 +171,10 @@ unfolding reading
 line-feed-first room line image u text y z c h e f =
     let g = reads-on room line image u (c ∷ text) y (omega arith) e in
     let q : c ≡ 58 = starts-colon room (line + 1) (image ++ dataOf (recordBytes (bare u))) text y c (g .2) in
-    colon-after room line image u (10 ∷ text) z (sound-line room line image u (c ∷ text) y e) (rw (ne-eqb c 10 h, q) at f)
+    colon-after room line image u (10 ∷ text) z (read-line-good room line image u (c ∷ text) y e) (rw (ne-eqb c 10 h, q) at f)
 
 module _ (room b c : ℕ) (differ : b ≡ c → ⊥) where
-  exchanged-at-place : (rest y z : List ℕ) → Part room (b ∷ c ∷ rest) (c ∷ b ∷ rest) y z → SameDigit b c × (z ≡ y)
+  exchanged-at-place : (rest y z : List ℕ) → UpToDifference room (b ∷ c ∷ rest) (c ∷ b ∷ rest) y z → SameDigit b c × (z ≡ y)
   unfolding reading
   exchanged-at-place rest y z p =
       decide (eqb b 10)
@@ -194,7 +198,7 @@ pub exchanged-apart : (image other before rest : List ℕ) (b c : ℕ) → GoodT
     → GoodText other (before ++ c ∷ b ∷ rest) → (b ≡ c → ⊥)
     → SameDigit b c × (other ≡ image)
 exchanged-apart image other before rest b c g g′ differ =
-    exchanged-at-place (length image + length other) b c differ rest image other (part-good before (b ∷ c ∷ rest) (c ∷ b ∷ rest) g g′ (omega arith))
+    exchanged-at-place (length image + length other) b c differ rest image other (good-up-to-difference before (b ∷ c ∷ rest) (c ∷ b ∷ rest) g g′ (omega arith))
 
 -- ---- one of them has a character more
 
@@ -223,7 +227,7 @@ no-longer l c e f =
 module _ (room line : ℕ) (image : List ℕ) (c : ℕ) where
   -- the line with the character more ends here
   more-ends : (u v text y z : List ℕ) → ended room line image (u ++ v) text ≡ result y → ended room line image (u ++ c ∷ v) text ≡ result z
-      → Sound (bare (u ++ v)) → Sound (bare (u ++ c ∷ v)) → SpareReturn c (v ++ 10 ∷ text) × (z ≡ y)
+      → GoodRecord (bare (u ++ v)) → GoodRecord (bare (u ++ c ∷ v)) → SpareReturn c (v ++ 10 ∷ text) × (z ≡ y)
   more-ends u (d ∷ v) text y z e f s t =
       let l : List ℕ = bare (d ∷ v) in
       absurd (formed-odd (u ++ l) (u ++ c ∷ l) (rw (bare-append u v d) at (s .well-formed)) (rw (bare-on u v c d) at (t .well-formed))
@@ -247,7 +251,9 @@ module _ (room line : ℕ) (image : List ℕ) (c : ℕ) where
       (λ (q : eqb a 10 ≡ true).
       let e′ : ended room line image (u ++ v) text ≡ result y = rw q at e in
       let f′ : ended room line image (u ++ c ∷ v) text ≡ result z = rw q at f in
-      rw (eqb-true a 10 q) (more-ends u v text y z e′ f′ (sound-line room line image (u ++ v) text y e′) (sound-line room line image (u ++ c ∷ v) text z f′)))
+      let good = read-line-good room line image (u ++ v) text y e′ in
+      let good′ = read-line-good room line image (u ++ c ∷ v) text z f′ in
+      rw (eqb-true a 10 q) (more-ends u v text y z e′ f′ good good′))
       (λ (q : eqb a 10 ≡ false).
       rw (append-assoc v (a ∷ []) text) at
       (more-in-line u (v ++ a ∷ []) text y z (rw (q, append-assoc u v (a ∷ [])) at e) (rw (q, append-assoc u (c ∷ v) (a ∷ [])) at f)))
@@ -260,9 +266,9 @@ more-lines room line image u [] y z e f = refused-not f
 more-lines room line image u (d ∷ text) y z e f =
     let g = reads-on room line image u (d ∷ text) y (omega arith) e in
     let q : d ≡ 58 = starts-colon room (line + 1) (image ++ dataOf (recordBytes (bare u))) text y d (g .2) in
-    colon-after room line image u text z (sound-line room line image u (d ∷ text) y e) (rw q at f)
+    colon-after room line image u text z (read-line-good room line image u (d ∷ text) y e) (rw q at f)
 
-more-at-place : (room c : ℕ) (rest y z : List ℕ) → Part room (c ∷ rest) rest y z → SpareReturn c rest × (y ≡ z)
+more-at-place : (room c : ℕ) (rest y z : List ℕ) → UpToDifference room (c ∷ rest) rest y z → SpareReturn c rest × (y ≡ z)
 unfolding reading
 more-at-place room c rest y z p =
     decide (eqb c 10)
@@ -274,15 +280,15 @@ more-at-place room c rest y z p =
 pub one-longer : (image other before rest : List ℕ) (c : ℕ) → GoodText image (before ++ c ∷ rest) → GoodText other (before ++ rest)
     → SpareReturn c rest × (image ≡ other)
 one-longer image other before rest c g g′ =
-    more-at-place (length image + length other) c rest image other (part-good before (c ∷ rest) rest g g′ (omega arith))
+    more-at-place (length image + length other) c rest image other (good-up-to-difference before (c ∷ rest) rest g g′ (omega arith))
 
 -- ---- one of them stops
 
-stops-at-place : (room : ℕ) (s y z : List ℕ) → Part room s [] y z → ⊥
+stops-at-place : (room : ℕ) (s y z : List ℕ) → UpToDifference room s [] y z → ⊥
 unfolding reading
 stops-at-place room s y z p = refused-not (p .second)
 
 -- no good text is the beginning of another
 pub no-beginning : (image other front rest : List ℕ) (c : ℕ) → GoodText image (front ++ c ∷ rest) → GoodText other front → ⊥
 no-beginning image other front rest c g g′ =
-    stops-at-place (length image + length other) (c ∷ rest) image other (part-good front (c ∷ rest) [] g (rw (append-nil front) g′) (omega arith))
+    stops-at-place (length image + length other) (c ∷ rest) image other (good-up-to-difference front (c ∷ rest) [] g (rw (append-nil front) g′) (omega arith))

@@ -1,7 +1,7 @@
 use borrow.Author.Needs.{needs}
-use Rattle.hexline.specs.LineLaws.{bad-short, bad-colon, bad-length, bad-digits, bad-sum, good-line}
-use Rattle.hexline.proofs.line.judge_line.Statement.{statement}
-use Rattle.hexline.proofs.line.judge_line.Tie as tie
+use Rattle.hexline.specs.JudgeLaws.{bad-short, bad-colon, bad-length, bad-digits, bad-sum, good-line}
+use Rattle.hexline.proofs.judge.judge_line.Statement.{statement}
+use Rattle.hexline.proofs.judge.judge_line.Tie as tie
 
 returns : tie.Need-returns
 returns c = search (needs, bad-short)

@@ -22,6 +22,7 @@ use Rattle.hexformat.specs.FormatSaysLaws.{count-small, read-data, read-
 
 -- ---- the reader at a whole line
 
+-- a whole line that is read: data that have room, or the end with no text after it
 data LineAt (room line : ℕ) (image l text y : List ℕ) : Type 0 where
   isData : {r : Fields} → Form r l → Balanced r → IsData (length image) r → length image + length (r .contents) ≤ room
       → reading room (line + 1) (image ++ r .contents) [] text ≡ result y → LineAt room line image l text y
@@ -63,14 +64,15 @@ end-goes-on room line image (c ∷ text) f z d h = read-end room line image (c �
 
 -- ---- past whole lines
 
-record Passed (room line : ℕ) (image before : List ℕ) : Type 0 where
+-- the reader is past the lines `before`: at line′, with image′
+record ReadPast (room line : ℕ) (image before : List ℕ) : Type 0 where
   line′ : ℕ
   image′ : List ℕ
   same : (text : List ℕ) → reading room line image [] (before ++ text) ≡ reading room line′ image′ [] text
 
 past-line : (room line : ℕ) (image l before rest y : List ℕ) → 0 < length rest → LineAt room line image l (before ++ rest) y
-    → ((next : List ℕ) → reading room (line + 1) next [] (before ++ rest) ≡ result y → Passed room (line + 1) next before)
-    → Passed room line image (l ++ before)
+    → ((next : List ℕ) → reading room (line + 1) next [] (before ++ rest) ≡ result y → ReadPast room (line + 1) next before)
+    → ReadPast room line image (l ++ before)
 past-line room line image l before rest y h (isData {r = r} f z d k n) go =
     let p = go (image ++ r .contents) n in
     record {
@@ -82,7 +84,7 @@ past-line room line image l before rest y h (isEnd f z d n q) go = absurd (omega
 
 past : (room line : ℕ) (image rest y : List ℕ) {before : List ℕ} → WholeLines before → 0 < length rest
     → reading room line image [] (before ++ rest) ≡ result y
-    → Passed room line image before
+    → ReadPast room line image before
 past room line image rest y none h e = record { line′ = line; image′ = image; same = λ text. refl }
 past room line image rest y (more {line = l} {text = before} w lines) h e =
     past-line room line image l before rest y h (line-at room line image (before ++ rest) y w (rw (append-assoc l before rest) at e))

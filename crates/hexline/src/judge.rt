@@ -1,7 +1,8 @@
+// A line judged as a record, and its data bytes.
 ghost use mathlib.Core.Path.{_≡_};
 ghost use Rattle.hextext.specs.Record.{lineOf, typed};
 ghost use Rattle.hexline.specs.Line.{dataByte};
-ghost use Rattle.hexline.specs.LineLaws.{SpelledAt};
+ghost use Rattle.hexline.specs.JudgeLaws.{SpelledAt};
 use crate::digits::digit;
 use crate::digits::digits_sum;
 use hextext::Header;

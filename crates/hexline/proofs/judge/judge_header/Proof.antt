@@ -1,7 +1,7 @@
 use borrow.Author.Needs.{needs}
 use Rattle.hexline.specs.TypedLaws.{typed-empty, typed-astray, typed-past, typed-full, typed-data, typed-other, typed-long, typed-far, typed-end}
-use Rattle.hexline.proofs.line.judge_header.Statement.{statement}
-use Rattle.hexline.proofs.line.judge_header.Tie as tie
+use Rattle.hexline.proofs.judge.judge_header.Statement.{statement}
+use Rattle.hexline.proofs.judge.judge_header.Tie as tie
 
 returns : tie.Need-returns
 returns c = search (needs, typed-empty)

@@ -1,7 +1,7 @@
 use borrow.Author.Needs.{needs}
-use Rattle.hexline.specs.LineLaws.{spelled-short, spelled-past, spelled-there}
-use Rattle.hexline.proofs.line.byte_at.Statement.{statement}
-use Rattle.hexline.proofs.line.byte_at.Tie as tie
+use Rattle.hexline.specs.JudgeLaws.{spelled-short, spelled-past, spelled-there}
+use Rattle.hexline.proofs.judge.byte_at.Statement.{statement}
+use Rattle.hexline.proofs.judge.byte_at.Tie as tie
 
 returns : tie.Need-returns
 returns c = search (needs, spelled-short)

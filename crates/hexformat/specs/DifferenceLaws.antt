@@ -1,4 +1,4 @@
--- Lines that are read, and two texts that are read, from where they part.
+-- Lines that are read, and two texts that are read, up to where they differ.
 use mathlib.Core.Path.{_≡_, refl}
 use mathlib.Core.Bool.{true, false}
 use mathlib.Core.List.{List, [], _∷_, _++_, append-assoc}
@@ -45,14 +45,14 @@ longer-by-one u c = length-append u (c ∷ [])
 -- ---- a line that is read
 
 -- form and checksum are good
-pub record Sound (l : List ℕ) : Type 0 where
+pub record GoodRecord (l : List ℕ) : Type 0 where
   pub well-formed : formed l ≡ true
   pub balanced : total (recordBytes l) % 256 ≡ 0
 
--- a line that is read is sound
-pub sound-line : (room line : ℕ) (image l text y : List ℕ) → ended room line image l text ≡ result y → Sound (bare l)
+-- so is every line that is read
+pub read-line-good : (room line : ℕ) (image l text y : List ℕ) → ended room line image l text ≡ result y → GoodRecord (bare l)
 unfolding judge placed lineOf summed after
-sound-line room line image l text y e =
+read-line-good room line image l text y e =
     let s : ℕ = total (recordBytes (bare l)) % 256 in
     decide (formed (bare l))
     (λ (p : formed (bare l) ≡ true). decide (eqb s 0)
@@ -79,14 +79,14 @@ module _ (room line : ℕ) (image : List ℕ) where
   first-colon u [] y d e = refused-not e
   first-colon u (c ∷ text) y d e =
       decide (eqb c 10)
-      (λ (q : eqb c 10 ≡ true). first-formed d u (sound-line room line image (d ∷ u) text y (rw q at e) .well-formed))
+      (λ (q : eqb c 10 ≡ true). first-formed d u (read-line-good room line image (d ∷ u) text y (rw q at e) .well-formed))
       (λ (q : eqb c 10 ≡ false). first-colon (u ++ c ∷ []) text y d (rw q at e))
 
   pub starts-colon : (text y : List ℕ) (d : ℕ) → reading room line image [] (d ∷ text) ≡ result y → d ≡ 58
   unfolding reading
   starts-colon text y d e =
       decide (eqb d 10)
-      (λ (q : eqb d 10 ≡ true). absurd (no-empty-line (sound-line room line image [] text y (rw q at e) .well-formed)))
+      (λ (q : eqb d 10 ≡ true). absurd (no-empty-line (read-line-good room line image [] text y (rw q at e) .well-formed)))
       (λ (q : eqb d 10 ≡ false). first-colon [] text y d (rw q at e))
 
   pub no-colon : (a : ℕ) (u v text y : List ℕ) → reading room line image (a ∷ u ++ 58 ∷ v) text ≡ result y → ⊥
@@ -94,7 +94,7 @@ module _ (room line : ℕ) (image : List ℕ) where
   no-colon a u v [] y e = refused-not e
   no-colon a u v (c ∷ text) y e =
       decide (eqb c 10)
-      (λ (q : eqb c 10 ≡ true). not-formed v (sound-line room line image (a ∷ u ++ 58 ∷ v) text y (rw q at e) .well-formed))
+      (λ (q : eqb c 10 ≡ true). not-formed v (read-line-good room line image (a ∷ u ++ 58 ∷ v) text y (rw q at e) .well-formed))
       (λ (q : eqb c 10 ≡ false). no-colon a u (v ++ c ∷ []) text y (rw (q, append-assoc (a ∷ u) (58 ∷ v) (c ∷ [])) at e))
     where
       not-formed : (v : List ℕ) → formed (bare (a ∷ u ++ 58 ∷ v)) ≡ true → ⊥
@@ -114,29 +114,30 @@ module _ (room line : ℕ) (image : List ℕ) where
       on End (c ∷ text) h e = refused-not e
       on (Fault n) text h e = refused-not e
 
--- ---- two texts that are read, from where they part
+-- ---- two texts that are read, up to where they differ
 
-pub record Part (room : ℕ) (s t y z : List ℕ) : Type 0 where
+-- both are read from the same line, image and characters of the line on: the first at s, the second at t
+pub record UpToDifference (room : ℕ) (s t y z : List ℕ) : Type 0 where
   pub line : ℕ
   pub image : List ℕ
   pub passed : List ℕ
   pub first : reading room line image passed s ≡ result y
   pub second : reading room line image passed t ≡ result z
 
-part : (room line : ℕ) (image passed before s t y z : List ℕ) → 0 < length s
-    → reading room line image passed (before ++ s) ≡ result y → reading room line image passed (before ++ t) ≡ result z → Part room s t y z
+up-to-difference : (room line : ℕ) (image passed before s t y z : List ℕ) → 0 < length s
+    → reading room line image passed (before ++ s) ≡ result y → reading room line image passed (before ++ t) ≡ result z → UpToDifference room s t y z
 unfolding reading after
-part room line image passed [] s t y z h e f = record { line = line; image = image; passed = passed; first = e; second = f }
-part room line image passed (a ∷ before) s t y z h e f =
+up-to-difference room line image passed [] s t y z h e f = record { line = line; image = image; passed = passed; first = e; second = f }
+up-to-difference room line image passed (a ∷ before) s t y z h e f =
     decide (eqb a 10)
     (λ (q : eqb a 10 ≡ true).
     let g = reads-on room line image passed (before ++ s) y (omega (arith, length-append before s)) (rw q at e) in
-    part room (line + 1) (image ++ dataOf (recordBytes (bare passed))) [] before s t y z h (g .2) (rw (q, g .1) at f))
-    (λ (q : eqb a 10 ≡ false). part room line image (passed ++ a ∷ []) before s t y z h (rw q at e) (rw q at f))
+    up-to-difference room (line + 1) (image ++ dataOf (recordBytes (bare passed))) [] before s t y z h (g .2) (rw (q, g .1) at f))
+    (λ (q : eqb a 10 ≡ false). up-to-difference room line image (passed ++ a ∷ []) before s t y z h (rw q at e) (rw q at f))
 
 -- two good texts are both read where there is room for the two images
-pub part-good : {image other : List ℕ} (before s t : List ℕ) → GoodText image (before ++ s) → GoodText other (before ++ t) → 0 < length s
-    → Part (length image + length other) s t image other
-part-good {image} {other} before s t g g′ h =
+pub good-up-to-difference : {image other : List ℕ} (before s t : List ℕ) → GoodText image (before ++ s) → GoodText other (before ++ t) → 0 < length s
+    → UpToDifference (length image + length other) s t image other
+good-up-to-difference {image} {other} before s t g g′ h =
     let room : ℕ = length image + length other in
-    part room 1 [] [] before s t image other h (reads-good room g (omega arith)) (reads-good room g′ (omega arith))
+    up-to-difference room 1 [] [] before s t image other h (reads-good room g (omega arith)) (reads-good room g′ (omega arith))
