@@ -116,7 +116,8 @@ linesRight lines = leb 1 (length lines) && (leb (length lines) 16 && kindsRise 0
 abbrev pub lengthsRight : List KindAndLength → (bodies : List ℕ) → Bool
 lengthsRight lines bodies = eqb (lengthsTotal lines) (length bodies) && leb (imageLength lines bodies) 4096
 
-pub record Passed (size : ℕ) (lines : List KindAndLength) (bodies : List ℕ) : Type 0 where
+-- what lines and bodies are for which none of 18, 19 and 17 is given
+pub record AcceptedLines (size : ℕ) (lines : List KindAndLength) (bodies : List ℕ) : Type 0 where
   pub some : 1 ≤ length lines
   pub few : length lines ≤ 16
   pub rise : kindsRise 0 lines ≡ true
@@ -125,7 +126,7 @@ pub record Passed (size : ℕ) (lines : List KindAndLength) (bodies : List ℕ) 
   pub room : imageLength lines bodies ≤ size
 
 module _ (size : ℕ) (lines : List KindAndLength) (bodies : List ℕ) where
-  pub passed : buildVerdict size lines bodies ≡ Accepted → Passed size lines bodies
+  pub passed : buildVerdict size lines bodies ≡ Accepted → AcceptedLines size lines bodies
   unfolding buildVerdict
   passed e =
       let first = asked (linesRight lines) 18 0 (first-passed _ _ e) in
@@ -142,7 +143,7 @@ module _ (size : ℕ) (lines : List KindAndLength) (bodies : List ℕ) where
         room = leb-true (imageLength lines bodies) size (asked _ 17 0 third);
       }
 
-  pub passes : Passed size lines bodies → buildVerdict size lines bodies ≡ Accepted
+  pub passes : AcceptedLines size lines bodies → buildVerdict size lines bodies ≡ Accepted
   unfolding buildVerdict
   passes p =
       rw (

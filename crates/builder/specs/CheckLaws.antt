@@ -93,27 +93,27 @@ module _ (kinds lengths : List ℕ) where
 
 -- ---- 19
 
--- `left` of `whole` is left when the lengths up to line i are taken off
-pub record Adding (lengths : List ℕ) (whole left i : ℕ) : Type 0 where
-  pub rest : total lengths + left ≡ whole + total (drop i lengths)
+-- of `bytes` there is `left` when the lengths up to line i are taken off
+pub record Adding (lengths : List ℕ) (bytes left i : ℕ) : Type 0 where
+  pub rest : total lengths + left ≡ bytes + total (drop i lengths)
 
-pub adding-first : (lengths : List ℕ) (whole : ℕ) → Adding lengths whole whole 0
-adding-first lengths whole = record { rest = omega arith }
+pub adding-first : (lengths : List ℕ) (bytes : ℕ) → Adding lengths bytes bytes 0
+adding-first lengths bytes = record { rest = omega arith }
 
-module _ (lengths : List ℕ) (whole left i : ℕ) (h : Adding lengths whole left i) where
-  pub adding-more : i < length lengths → getD lengths i 0 ≤ left → Adding lengths whole (left - getD lengths i 0) (i + 1)
+module _ (lengths : List ℕ) (bytes left i : ℕ) (h : Adding lengths bytes left i) where
+  pub adding-more : i < length lengths → getD lengths i 0 ≤ left → Adding lengths bytes (left - getD lengths i 0) (i + 1)
   adding-more k l = let t = total-more lengths i k in let r = h .rest in record { rest = omega arith }
 
-  pub adding-short : i < length lengths → left < getD lengths i 0 → false ≡ eqb (total lengths) whole
-  adding-short k l = let t = total-more lengths i k in let r = h .rest in sym (ne-eqb _ _ (λ (e : total lengths ≡ whole). omega arith))
+  pub adding-short : i < length lengths → left < getD lengths i 0 → false ≡ eqb (total lengths) bytes
+  adding-short k l = let t = total-more lengths i k in let r = h .rest in sym (ne-eqb _ _ (λ (e : total lengths ≡ bytes). omega arith))
 
-  pub adding-end : length lengths ≤ i → eqb left 0 ≡ eqb (total lengths) whole
+  pub adding-end : length lengths ≤ i → eqb left 0 ≡ eqb (total lengths) bytes
   adding-end k =
       let t = total-end lengths i k in
       let r = h .rest in
       decide (eqb left 0)
-      (λ e. let z = eqb-true left 0 e in e ∙ sym (eq-eqb (total lengths) whole (omega arith)))
-      (λ e. e ∙ sym (ne-eqb (total lengths) whole (λ f. eqb-false left 0 e (omega arith))))
+      (λ e. let z = eqb-true left 0 e in e ∙ sym (eq-eqb (total lengths) bytes (omega arith)))
+      (λ e. e ∙ sym (ne-eqb (total lengths) bytes (λ f. eqb-false left 0 e (omega arith))))
 
 module _ (lengths bodies : List ℕ) (r : Bool) (e : r ≡ eqb (total lengths) (length bodies)) where
   pub lengths-differ : not r ≡ true → (kinds : List ℕ) → length kinds ≡ length lengths → false ≡ lengthsRight (linesGiven kinds lengths) bodies

@@ -192,11 +192,11 @@ image-written kinds lengths bodies before started listed image place size b k₁
 -- ---- by the verdict
 
 module _ (kinds lengths bodies : List ℕ) (size : ℕ) (v : Verdict) (e : v ≡ buildVerdict size (linesGiven kinds lengths) bodies) where
-  pub begun-refused : (r : Refusal) (buffer : List ℕ) → v ≡ Refused r → Begins (buildImage size (linesGiven kinds lengths) bodies) (NotFilled r) buffer
+  pub put-refused : (r : Refusal) (buffer : List ℕ) → v ≡ Refused r → Begins (buildImage size (linesGiven kinds lengths) bodies) (NotFilled r) buffer
   unfolding buildImage
-  begun-refused r buffer f = rw (sym e ∙ f) (record { answers = refl; begins = refl })
+  put-refused r buffer f = rw (sym e ∙ f) (record { answers = refl; begins = refl })
 
-  pub begun-accepted : (a : Filled) (buffer : List ℕ) → v ≡ Accepted → Begins (result (imageOf (sectionsOf (linesGiven kinds lengths) bodies))) a buffer
+  pub put-accepted : (a : Filled) (buffer : List ℕ) → v ≡ Accepted → Begins (result (imageOf (sectionsOf (linesGiven kinds lengths) bodies))) a buffer
       → Begins (buildImage size (linesGiven kinds lengths) bodies) a buffer
   unfolding buildImage
-  begun-accepted a buffer f b = rw (sym e ∙ f) b
+  put-accepted a buffer f b = rw (sym e ∙ f) b

@@ -1,3 +1,4 @@
+// Where lines and bodies stand in an image.
 ghost use mathlib.Core.Path.{_≡_};
 ghost use Prim.Native.Nat.{_+_, _≤_};
 ghost use lib.ListN.{length};

@@ -1,3 +1,4 @@
+// The image's bytes written into a buffer: the first two, the contents lines, the bodies.
 ghost use mathlib.Core.Path.{_≡_};
 ghost use mathlib.Core.List.{_++_, [], _∷_};
 ghost use Prim.Native.Nat.{_+_, _%_, _≤_};
@@ -16,7 +17,7 @@ use numbers::slices;
 use refusals::Filled;
 
 // A contents line from `place` on.
-fn line(image: &mut [u8], place: usize, kind: u8, offset: u16, size: u16, sum: u16)
+fn put_line(image: &mut [u8], place: usize, kind: u8, offset: u16, size: u16, sum: u16)
     requires { ⌜ place + 8 ≤ length (now image) ⌝ }
     ensures { λ _. ⌜ take (place + 8) (now (image .exit)) ≡ take place (now (image .entry)) ++ contentsLine kind offset size sum ⌝ }
 {
@@ -40,7 +41,7 @@ fn body_sum(bodies: &[u8], start: usize, size: usize) -> u16
 }
 
 // The contents lines, after the image's first two bytes.
-fn contents(kinds: &[u32], lengths: &[usize], bodies: &[u8], image: &mut [u8])
+fn put_contents(kinds: &[u32], lengths: &[usize], bodies: &[u8], image: &mut [u8])
     requires { ⌜ Buildable (now kinds) (now lengths) (now bodies) (length (now image)) ⌝ }
     ensures { λ _. ⌜ take (linePlace (length (now (kinds .entry)))) (now (image .exit)) ≡ take 2 (now (image .entry)) ++ contentsFrom (linePlace (length (now (kinds .entry)))) (sectionsOf (linesGiven (now (kinds .entry)) (now (lengths .entry))) (now (bodies .entry))) ⌝ }
 {
@@ -50,7 +51,7 @@ fn contents(kinds: &[u32], lengths: &[usize], bodies: &[u8], image: &mut [u8])
     while i < kinds.len() {
         let length = lengths[i];
         let sum = body_sum(bodies, start, length);
-        line(
+        put_line(
             image,
             place::line_place(i),
             kinds[i] as u8,
@@ -76,7 +77,7 @@ fn copy_on(image: &mut [u8], place: usize, bodies: &[u8], from: usize, count: us
 }
 
 // The bodies as one block, from `place` on: 128 bytes at a time, which the compiler moves together.
-fn block(image: &mut [u8], place: usize, bodies: &[u8])
+fn put_bodies(image: &mut [u8], place: usize, bodies: &[u8])
     requires { ⌜ place + length (now bodies) ≤ length (now image) ⌝ }
     ensures { λ _. ⌜ take (place + length (now (bodies .entry))) (now (image .exit)) ≡ take place (now (image .entry)) ++ now (bodies .entry) ⌝ }
 {
@@ -89,7 +90,7 @@ fn block(image: &mut [u8], place: usize, bodies: &[u8])
 }
 
 // The image's first two bytes.
-fn start(image: &mut [u8], count: u8)
+fn put_start(image: &mut [u8], count: u8)
     requires { ⌜ 2 ≤ length (now image) ⌝ }
     ensures { λ _. ⌜ take 2 (now (image .exit)) ≡ 0x51 ∷ count ∷ [] ⌝ }
 {
@@ -98,12 +99,12 @@ fn start(image: &mut [u8], count: u8)
 }
 
 // The image, from the buffer's start.
-pub fn image(kinds: &[u32], lengths: &[usize], bodies: &[u8], image: &mut [u8]) -> Filled
+pub fn put_image(kinds: &[u32], lengths: &[usize], bodies: &[u8], image: &mut [u8]) -> Filled
     requires { ⌜ Buildable (now kinds) (now lengths) (now bodies) (length (now image)) ⌝ }
     ensures { λ r. ⌜ Begins (result (imageOf (sectionsOf (linesGiven (now (kinds .entry)) (now (lengths .entry))) (now (bodies .entry))))) r (now (image .exit)) ⌝ }
 {
-    start(image, kinds.len() as u8);
-    contents(kinds, lengths, bodies, image);
-    block(image, place::line_place(kinds.len()), bodies);
+    put_start(image, kinds.len() as u8);
+    put_contents(kinds, lengths, bodies, image);
+    put_bodies(image, place::line_place(kinds.len()), bodies);
     Filled::Length(place::image_length(kinds.len(), bodies))
 }

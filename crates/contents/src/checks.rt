@@ -1,3 +1,4 @@
+// The three checks of contents, refusals 5 to 7, each by itself.
 ghost use mathlib.Core.Bool.{_&&_};
 ghost use mathlib.Core.Path.{_≡_};
 ghost use Prim.Native.Nat.{_<_};
@@ -13,7 +14,7 @@ use refusals::Verdict;
 use refusals::refused;
 
 // Refusal 5.
-pub fn start(contents: &[u8], size: usize) -> Verdict
+pub fn start_verdict(contents: &[u8], size: usize) -> Verdict
     ensures { λ r. ⌜ r ≡ startVerdict size (now (contents .entry)) ⌝ }
 {
     if size < 2 {
@@ -29,7 +30,7 @@ pub fn start(contents: &[u8], size: usize) -> Verdict
 }
 
 // Refusal 6.
-pub fn count(contents: &[u8], size: usize) -> Verdict
+pub fn count_verdict(contents: &[u8], size: usize) -> Verdict
     ensures { λ r. ⌜ r ≡ countVerdict size (now (contents .entry)) ⌝ }
 {
     let count = line_count(contents);
@@ -45,8 +46,8 @@ pub fn count(contents: &[u8], size: usize) -> Verdict
     Verdict::Accepted
 }
 
-// Where all `count` lines are there, which is the same question for each of them, a line is read with no bounds check. The rest goes
-// by `line_at`, which has callers in other crates too, so that the compiler inlines it nowhere.
+// The bounds check is for all `count` lines at once: it is loop-invariant, and the compiler hoists it. `line_at`, which has a bounds check
+// for each line, has callers in other crates, so that the compiler does not inline it.
 fn line_of(contents: &[u8], line: usize, count: usize) -> ContentsLine
     requires { ⌜ (line < count) × (count < 256) ⌝ }
     ensures { λ r. ⌜ r ≡ lineAt (now (contents .entry)) line ⌝ }
@@ -71,7 +72,7 @@ fn line_right(line: ContentsLine, previous: u8, offset: usize) -> bool
 }
 
 // Refusal 7.
-pub fn lines(contents: &[u8], size: usize) -> Verdict
+pub fn lines_verdict(contents: &[u8], size: usize) -> Verdict
     ensures { λ r. ⌜ r ≡ allLines size (now (contents .entry)) ⌝ }
 {
     let count = line_count(contents);

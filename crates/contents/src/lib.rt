@@ -25,8 +25,7 @@ pub fn line_count(image: &[u8]) -> usize
     fields::number1(image, 1) as usize
 }
 
-// A line's bytes as one number, so that one bounds check serves all its fields. Not by `number8`, which called from here too
-// would no longer be inlined anywhere.
+// A line's bytes as one number: one bounds check for all fields. Not by `number8`, which with one caller more would be inlined nowhere.
 fn eight_bytes(bytes: &[u8]) -> u64
     ensures { λ r. ⌜ r ≡ numberAt 8 (now (bytes .entry)) 0 ⌝ }
 {
@@ -47,7 +46,7 @@ fn eight_bytes(bytes: &[u8]) -> u64
     ])
 }
 
-// The line that these bytes begin with; bytes past the end are 0. Whoever lends eight bytes pays for no bounds check.
+// The line that these bytes begin with; bytes past the end are 0. Of a slice whose length is known to be 8 the compiler drops the bounds check.
 pub fn line_in(bytes: &[u8]) -> ContentsLine
     ensures { λ r. ⌜ r ≡ lineIn (now (bytes .entry)) ⌝ }
 {
@@ -61,7 +60,7 @@ pub fn line_in(bytes: &[u8]) -> ContentsLine
     }
 }
 
-// Bytes past the end are 0. Past 2^60 lines a place has no room in 64 bits, and no slice goes so far.
+// Bytes past the end are 0. From line 2^60 on the place would wrap, and no slice is so long.
 pub fn line_at(image: &[u8], line: usize) -> ContentsLine
     ensures { λ r. ⌜ r ≡ lineAt (now (image .entry)) line ⌝ }
 {
@@ -71,17 +70,17 @@ pub fn line_at(image: &[u8], line: usize) -> ContentsLine
     line_in(slices::part(image, 2 + 8 * line, 8))
 }
 
-// Refusals 5 to 7 of an image of this size, by its contents alone: the bodies need not be there.
+// Refusals 5 to 7 of an image of `size` bytes, by its contents alone: the bodies need not be there.
 pub fn contents_verdict(contents: &[u8], size: usize) -> Verdict
     ensures { λ r. ⌜ r ≡ contentsVerdict size (now (contents .entry)) ⌝ }
 {
-    let start = checks::start(contents, size);
+    let start = checks::start_verdict(contents, size);
     let Verdict::Accepted = start else {
         return start;
     };
-    let count = checks::count(contents, size);
+    let count = checks::count_verdict(contents, size);
     let Verdict::Accepted = count else {
         return count;
     };
-    checks::lines(contents, size)
+    checks::lines_verdict(contents, size)
 }

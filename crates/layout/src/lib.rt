@@ -7,7 +7,7 @@ use numbers::slices;
 use refusals::Verdict;
 use refusals::refused;
 
-// Refusal 8. The contents are good, so every line is there, and every body right after the one before: neither is tested for.
+// Refusal 8. The contents are good, so every line is in bounds, and every body right after the one before: no bounds check.
 fn sums(image: &[u8]) -> Verdict
     requires { ⌜ contentsVerdict (length (now image)) (now image) ≡ Verdict.Accepted ⌝ }
     ensures { λ r. ⌜ r ≡ allSums (now (image .entry)) ⌝ }

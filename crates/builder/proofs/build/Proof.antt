@@ -1,10 +1,10 @@
 -- A walk of the function's MIR, statement by statement, in the program logic: no function over a slice of structs is covered.
 -- Of the four callees it knows only that each meets its contract. The walk is cut into lemmas at statements, read from the last up:
 --     walk                the entry: the locals' memory, the parameters passed
---     begins, counted     how many lines are looked at, and the empty table, by `few` and `empty`
+--     begins, counted     how many lines are looked at, and the empty table, by `lines_looked_at` and `empty_table`
 --     looped              the loop, by `takes` where a turn takes one line more, and by `leaves` where there is none left
---     takes               line i is read out of the slice and goes through `put`; so the next state is one line further
---     leaves              `build_table` does the rest, and promises it of the lines, since the table was gathered from them
+--     takes               line i is read out of the slice and goes through `add_line`; so the next state is one line further
+--     leaves              `build_table` does the rest, and promises it of the lines, since the table holds them
 --     exits               what is had at the end is what the contract asks
 use mathlib.Core.Path.{_≡_, refl, sym, ap, subst}
 use Prim.Native.Nat.{ℕ, _+_, _*_, _-_, _≤_, _<_, _^_, zero-le, min}
@@ -60,26 +60,26 @@ use Rattle.refusals.specs.Refusals.{Fills}
 use Rattle.refusals.proofs.Filled.{the-row as filled-row, the-type as filled-type}
 use Rattle.refusals.proofs.Filled.Laws.{the-laws as filled-laws, mir as filled-mir}
 use Rattle.builder.specs.declared.KindAndLength.{KindAndLength}
-use Rattle.builder.specs.declared.Table.{Table}
+use Rattle.builder.specs.declared.table.Table.{Table}
 use Rattle.builder.specs.Build.{buildImage}
 use Rattle.builder.specs.Lines.{noLine}
-use Rattle.builder.specs.GatherLaws.{Gathered, gathered-all}
+use Rattle.builder.specs.TableLaws.{TableHolds, table-all}
 use Rattle.builder.proofs.KindAndLength.{the-row as line-row, the-type as line-type}
 use Rattle.builder.proofs.KindAndLength.Laws.{the-laws as line-laws, the-plain as line-plain, the-copy as line-copy, mir as line-mir}
-use Rattle.builder.proofs.Table.{the-row as table-row, the-type as table-type}
-use Rattle.builder.proofs.Table.Laws.{the-laws as table-laws, the-plain as table-plain, mir as table-mir}
-use Rattle.builder.proofs.gather.few as few
-use Rattle.builder.proofs.gather.few.Symbol as few-symbol
-use Rattle.builder.proofs.gather.few.Symbol.{name as #builder·gather·few}
-use Rattle.builder.proofs.gather.few.Met as few-theorem
-use Rattle.builder.proofs.gather.empty as empty
-use Rattle.builder.proofs.gather.empty.Symbol as empty-symbol
-use Rattle.builder.proofs.gather.empty.Symbol.{name as #builder·gather·empty}
-use Rattle.builder.proofs.gather.empty.Met as empty-theorem
-use Rattle.builder.proofs.gather.put as put
-use Rattle.builder.proofs.gather.put.Symbol as put-symbol
-use Rattle.builder.proofs.gather.put.Symbol.{name as #builder·gather·put}
-use Rattle.builder.proofs.gather.put.Met as put-theorem
+use Rattle.builder.proofs.table.Table.{the-row as table-row, the-type as table-type}
+use Rattle.builder.proofs.table.Table.Laws.{the-laws as table-laws, the-plain as table-plain, mir as table-mir}
+use Rattle.builder.proofs.table.lines_looked_at as looked-at
+use Rattle.builder.proofs.table.lines_looked_at.Symbol as looked-at-symbol
+use Rattle.builder.proofs.table.lines_looked_at.Symbol.{name as #builder·table·lines-looked-at}
+use Rattle.builder.proofs.table.lines_looked_at.Met as looked-at-theorem
+use Rattle.builder.proofs.table.empty_table as empty-table
+use Rattle.builder.proofs.table.empty_table.Symbol as empty-table-symbol
+use Rattle.builder.proofs.table.empty_table.Symbol.{name as #builder·table·empty-table}
+use Rattle.builder.proofs.table.empty_table.Met as empty-table-theorem
+use Rattle.builder.proofs.table.add_line as add-line
+use Rattle.builder.proofs.table.add_line.Symbol as add-line-symbol
+use Rattle.builder.proofs.table.add_line.Symbol.{name as #builder·table·add-line}
+use Rattle.builder.proofs.table.add_line.Met as add-line-theorem
 use Rattle.builder.proofs.build_table as build-table
 use Rattle.builder.proofs.build_table.Symbol as build-table-symbol
 use Rattle.builder.proofs.build_table.Symbol.{name as #builder·build-table}
@@ -99,7 +99,7 @@ record State (lines : List KindAndLength) (count : ℕ) : Type 0 where
   held : Val
   within : i ≤ count
   is : Is table-row table (held ∷ [])
-  gathered : Gathered table (take i lines)
+  holds-them : TableHolds table (take i lines)
 
 abbrev Nearer : (lines : List KindAndLength) (count : ℕ) → State lines count → State lines count → Type 0
 Nearer lines count r s = count - r .i < count - s .i
@@ -148,21 +148,21 @@ module _ {M : Type 1} {𝓤 : URA M} {H : Heap 𝓤} {A : Atoms 𝓤} {W : Given
 -- ---- the contracts of the callees
 
 module _ {M : Type 1} (𝓤 : URA M) (H : Heap 𝓤) (A : Atoms 𝓤) (mem : Memory → SProp 𝓤) (run : Routine → Fun 𝓤) where
-  abbrev Few : Contract 𝓤
-  Few = tripleOf 𝓤 H A few.signature (few.spec 𝓤 H A mem run)
+  abbrev LookedAt : Contract 𝓤
+  LookedAt = tripleOf 𝓤 H A looked-at.signature (looked-at.spec 𝓤 H A mem run)
 
-  abbrev Empty : Contract 𝓤
-  Empty = tripleOf 𝓤 H A empty.signature (empty.spec 𝓤 H A mem run)
+  abbrev EmptyTable : Contract 𝓤
+  EmptyTable = tripleOf 𝓤 H A empty-table.signature (empty-table.spec 𝓤 H A mem run)
 
-  abbrev Put : Contract 𝓤
-  Put = tripleOf 𝓤 H A put.signature (put.spec 𝓤 H A mem run)
+  abbrev AddLine : Contract 𝓤
+  AddLine = tripleOf 𝓤 H A add-line.signature (add-line.spec 𝓤 H A mem run)
 
   abbrev BuildTable : Contract 𝓤
   BuildTable = tripleOf 𝓤 H A build-table.signature (build-table.spec 𝓤 H A mem run)
 
--- what `put` promises
-abbrev Puts : Table → KindAndLength → Table → Type 0
-Puts table line r = (lines : List KindAndLength) → Gathered table lines → Gathered r (lines ++ line ∷ [])
+-- what `add_line` promises
+abbrev Adds : Table → KindAndLength → Table → Type 0
+Adds table line r = (lines : List KindAndLength) → TableHolds table lines → TableHolds r (lines ++ line ∷ [])
 
 -- lines and bodies are seen as they were passed; the image is given up to `build_table` for good
 abbrev stayed : Stays (build.ended .signature .params) (build.ended .kept)
@@ -221,26 +221,26 @@ module _ {M : Type 1} (𝓤 : URA M) (H : Heap 𝓤) (A : Atoms 𝓤) (W : Given
 
   -- ---- each call: what its contract binds, and that it is given what it asks
 
-  abbrev to-few : Few 𝓤 H A mem run .Ghost
-  to-few = ((tt, tt, tt, (given, tt), (vint w64 given ∷ [], tt)), tt)
+  abbrev to-looked-at : LookedAt 𝓤 H A mem run .Ghost
+  to-looked-at = ((tt, tt, tt, (given, tt), (vint w64 given ∷ [], tt)), tt)
 
-  asks-few : given < 2 ^ 64 → ent 𝓤 (mean 𝓤 H A (‵ ftrue)) (Few 𝓤 H A mem run .pre to-few)
-  asks-few g =
+  asks-looked-at : given < 2 ^ 64 → ent 𝓤 (mean 𝓤 H A (‵ ftrue)) (LookedAt 𝓤 H A mem run .pre to-looked-at)
+  asks-looked-at g =
       qed W (‵ ftrue ∷ []) ∵ nothing ! $ owned ! usize (Is usize) (uint-makes 𝓤 H A W w64) given _ (refl, g) $ fjoin ! $
       move ! (1 ∷ 0 ∷ []) $ join ! $ frame ! $ done !
 
-  abbrev to-empty : Empty 𝓤 H A mem run .Ghost
-  to-empty = ((tt, tt, tt, tt, tt), tt)
+  abbrev to-empty-table : EmptyTable 𝓤 H A mem run .Ghost
+  to-empty-table = ((tt, tt, tt, tt, tt), tt)
 
-  asks-empty : ent 𝓤 (mean 𝓤 H A (‵ ftrue)) (Empty 𝓤 H A mem run .pre to-empty)
-  asks-empty = qed W (‵ ftrue ∷ []) ∵ nothing ! $ join ! $ frame ! $ done !
+  asks-empty-table : ent 𝓤 (mean 𝓤 H A (‵ ftrue)) (EmptyTable 𝓤 H A mem run .pre to-empty-table)
+  asks-empty-table = qed W (‵ ftrue ∷ []) ∵ nothing ! $ join ! $ frame ! $ done !
 
-  abbrev to-put : Table → Val → KindAndLength → Val → Put 𝓤 H A mem run .Ghost
-  to-put t u l w = ((tt, tt, tt, (t, (l, tt)), (u ∷ [], (w ∷ [], tt))), tt)
+  abbrev to-add-line : Table → Val → KindAndLength → Val → AddLine 𝓤 H A mem run .Ghost
+  to-add-line t u l w = ((tt, tt, tt, (t, (l, tt)), (u ∷ [], (w ∷ [], tt))), tt)
 
-  asks-put : (t : Table) (u : Val) (l : KindAndLength) (w : Val) → Is table-row t (u ∷ []) → Is line-row l (w ∷ [])
-      → ent 𝓤 (mean 𝓤 H A (‵ ftrue)) (Put 𝓤 H A mem run .pre (to-put t u l w))
-  asks-put t u l w is-table is-line =
+  asks-add-line : (t : Table) (u : Val) (l : KindAndLength) (w : Val) → Is table-row t (u ∷ []) → Is line-row l (w ∷ [])
+      → ent 𝓤 (mean 𝓤 H A (‵ ftrue)) (AddLine 𝓤 H A mem run .pre (to-add-line t u l w))
+  asks-add-line t u l w is-table is-line =
       qed W (‵ ftrue ∷ []) ∵ nothing ! $
       owned ! line-row (Is line-row) (makes line-type line-plain 𝓤 H A) l _ is-line $ fjoin ! $
       owned ! table-row (Is table-row) (makes table-type table-plain 𝓤 H A) t _ is-table $ fjoin ! $
@@ -263,8 +263,8 @@ module _ {M : Type 1} (𝓤 : URA M) (H : Heap 𝓤) (A : Atoms 𝓤) (W : Given
       join ! $ frame ! $ nothing ! $ move ! (3 ∷ 0 ∷ []) $ fjoin ! $ move ! (2 ∷ 0 ∷ []) $ fjoin ! $ move ! (1 ∷ 0 ∷ []) $ fjoin ! $ done !
 
   module _ (𝓣 : Tables 𝓤 H) (fm : FmC 𝓤 H (W .laws) (𝓣 .C))
-      (known-few : Triple 𝓤 (𝓣 .C #builder·gather·few) (Few 𝓤 H A mem run)) (known-empty : Triple 𝓤 (𝓣 .C #builder·gather·empty) (Empty 𝓤 H A mem run))
-      (known-put : Triple 𝓤 (𝓣 .C #builder·gather·put) (Put 𝓤 H A mem run)) (known-build-table : Triple 𝓤 (𝓣 .C #builder·build-table) (BuildTable 𝓤 H A mem run))
+      (known-looked-at : Triple 𝓤 (𝓣 .C #builder·table·lines-looked-at) (LookedAt 𝓤 H A mem run)) (known-empty-table : Triple 𝓤 (𝓣 .C #builder·table·empty-table) (EmptyTable 𝓤 H A mem run))
+      (known-add-line : Triple 𝓤 (𝓣 .C #builder·table·add-line) (AddLine 𝓤 H A mem run)) (known-build-table : Triple 𝓤 (𝓣 .C #builder·build-table) (BuildTable 𝓤 H A mem run))
       (are-lines : Is (ShrSlice (named 0) κ₀ line-row) lines (v₀ ∷ [])) (are-bodies : Is (ShrSlice (named 1) κ₁ u8) bodies (v₁ ∷ []))
       (is-image : Is (MutSlice (named 2) κ₂ u8) image (v₂ ∷ [])) where
     module _ (l₀ l₁ l₂ l₃ l₄ l₅ l₆ l₇ l₈ l₉ l₁₀ l₁₁ l₁₂ l₁₃ : ℕ) where
@@ -333,15 +333,15 @@ module _ {M : Type 1} (𝓤 : URA M) (H : Heap 𝓤) (A : Atoms 𝓤) (W : Given
             (init ! (3 + spot 11) refl (lawful line-type line-laws 𝓤 H A W .typed line _ is-line .0)) $
             elem-back ! line-row q′ (now lines) (s .i) noLine (vals line-type line-laws line) block start inside $
             shuts-slice ! tt line-row q′ (now lines) block start $ move ! (1 ∷ []) $
-            -- `put`
-            nothing ! $ use1 W (raw (Put 𝓤 H A mem run .pre (to-put (s .table) (s .held) line lineᵛ))) (asks-put (s .table) (s .held) line lineᵛ (s .is) is-line) $
-            calls-at ! fm (Put 𝓤 H A mem run) known-put (to-put (s .table) (s .held) line lineᵛ)
+            -- `add_line`
+            nothing ! $ use1 W (raw (AddLine 𝓤 H A mem run .pre (to-add-line (s .table) (s .held) line lineᵛ))) (asks-add-line (s .table) (s .held) line lineᵛ (s .is) is-line) $
+            calls-at ! fm (AddLine 𝓤 H A mem run) known-add-line (to-add-line (s .table) (s .held) line lineᵛ)
             (and-then ! (value ! (1 + spot 5) refl) (and-then ! (value ! (1 + spot 11) refl) (no-more !))) (λ u.
-            told-value table-row (lasts put.ended tt (s .table, (line, tt))) u (Puts (s .table) line) (id⊢ 𝓤 _) tt (λ r is puts.
+            told-value table-row (lasts add-line.ended tt (s .table, (line, tt))) u (Adds (s .table) line) (id⊢ 𝓤 _) tt (λ r is adds.
             land ! (local !) (store ! (spot 5) refl (lawful table-type table-laws 𝓤 H A W .typed r _ is .0)) $
             -- i + 1, and the turn's own locals are empty again
             assigns-last ! (bin ! (value ! (spot 6) refl) (lit ! tt) (record { fits = next-fits })) (local !) (store ! (spot 6) refl (tt, record { fits = next-fits })) $
-            forget ! (spot 11) refl $ forget ! (spot 10) refl $ forget ! (spot 9) refl $ forget ! (spot 8) refl $ again ! (Nearer (now lines) count) At s (next r u is puts) nearer))))
+            forget ! (spot 11) refl $ forget ! (spot 10) refl $ forget ! (spot 9) refl $ forget ! (spot 8) refl $ again ! (Nearer (now lines) count) At s (next r u is adds) nearer))))
           where
             below : s .i < count
             below = ltb-true (s .i) count e
@@ -361,14 +361,14 @@ module _ {M : Type 1} (𝓤 : URA M) (H : Heap 𝓤) (A : Atoms 𝓤) (W : Given
             next-fits : s .i + 1 < 2 ^ 64
             next-fits = omega (arith, inside, are-lines .0 .1 .0)
 
-            next : (r : Table) (u : Val) → Is table-row r (u ∷ []) → Puts (s .table) line r → State (now lines) count
-            next r u is puts = record {
+            next : (r : Table) (u : Val) → Is table-row r (u ∷ []) → Adds (s .table) line r → State (now lines) count
+            next r u is adds = record {
               i = s .i + 1;
               table = r;
               held = u;
               within = omega (arith, below);
               is = is;
-              gathered = rw (add-one (s .i), take-suc (now lines) (s .i) noLine inside) (puts (take (s .i) (now lines)) (s .gathered));
+              holds-them = rw (add-one (s .i), take-suc (now lines) (s .i) noLine inside) (adds (take (s .i) (now lines)) (s .holds-them));
             }
 
             nearer : count - (s .i + 1) < count - s .i
@@ -376,7 +376,7 @@ module _ {M : Type 1} (𝓤 : URA M) (H : Heap 𝓤) (A : Atoms 𝓤) (W : Given
 
         -- what `build_table` promises of its result and of the image at exit
         abbrev Filling : State (now lines) count → Filled → List ℕ → Type 0
-        Filling s r after = (listed : List KindAndLength) → Gathered (s .table) listed → Fills (buildImage (length (now image)) listed (now bodies)) (now image) r after
+        Filling s r after = (listed : List KindAndLength) → TableHolds (s .table) listed → Fills (buildImage (length (now image)) listed (now bodies)) (now image) r after
 
         leaves : (s : State (now lines) count) → ltb (s .i) count ≡ false → Sq W (At s) (runs C Λ En mir.turn-1 (anyQ (Turned s)))
         unfolding afterTurn
@@ -408,8 +408,8 @@ module _ {M : Type 1} (𝓤 : URA M) (H : Heap 𝓤) (A : Atoms 𝓤) (W : Given
             end : s .i ≡ count
             end = omega (arith, s .within, ltb-false (s .i) count e)
 
-            all : Gathered (s .table) (now lines)
-            all = gathered-all (s .table) (now lines) count is-count (subst (λ (k : ℕ). Gathered (s .table) (take k (now lines))) end (s .gathered))
+            all : TableHolds (s .table) (now lines)
+            all = table-all (s .table) (now lines) count is-count (subst (λ (k : ℕ). TableHolds (s .table) (take k (now lines))) end (s .holds-them))
 
         turns : (s : State (now lines) count) (t : Bool) → ltb (s .i) count ≡ t → Sq W (At s) (runs C Λ En mir.turn-1 (anyQ (Turned s)))
         turns s true e = takes s e
@@ -420,18 +420,18 @@ module _ {M : Type 1} (𝓤 : URA M) (H : Heap 𝓤) (A : Atoms 𝓤) (W : Given
 
         counted : Sq W (Had (holds (tyInt w64) l₄ (vint w64 count)) (room table-mir l₅) (room (tyInt w64) l₆)) (runs C Λ En mir.t-3 (atRet En Post))
         counted =
-            nothing ! $ use1 W (raw (Empty 𝓤 H A mem run .pre to-empty)) asks-empty $ calls-at ! fm (Empty 𝓤 H A mem run) known-empty to-empty (no-more !) (λ u.
-            told-value table-row (lasts empty.ended tt tt) u (λ r. Gathered r []) (id⊢ 𝓤 _) tt (λ r is none.
+            nothing ! $ use1 W (raw (EmptyTable 𝓤 H A mem run .pre to-empty-table)) asks-empty-table $ calls-at ! fm (EmptyTable 𝓤 H A mem run) known-empty-table to-empty-table (no-more !) (λ u.
+            told-value table-row (lasts empty-table.ended tt tt) u (λ r. TableHolds r []) (id⊢ 𝓤 _) tt (λ r is none.
             land ! (local !) (init ! (spot 5) refl (lawful table-type table-laws 𝓤 H A W .typed r _ is .0)) $
             assigns ! (of-opd ! (lit ! tt)) (local !) (init ! (spot 6) refl (tt, record { fits = lit< tt })) $
-            looped (record { i = 0; table = r; held = u; within = zero-le; is = is; gathered = none })))
+            looped (record { i = 0; table = r; held = u; within = zero-le; is = is; holds-them = none })))
 
       begins : Sq W (Had (room (tyInt w64) l₄) (room table-mir l₅) (room (tyInt w64) l₆)) (runs C Λ En mir.t-1 (atRet En Post))
       begins =
           assigns ! (of-opd ! (load ! (from ! (fld ! refl (stop !))) (look-in ! (spot 1) (sub ! 1 refl (whole !))))) (local !) (init ! (spot 7) refl (tt, record { fits = are-lines .0 .1 .0 })) $
-          nothing ! $ use1 W (raw (Few 𝓤 H A mem run .pre to-few)) (asks-few (are-lines .0 .1 .0)) $
-          calls-at ! fm (Few 𝓤 H A mem run) known-few to-few (and-then ! (value ! (1 + spot 7) refl) (no-more !)) (λ u.
-          told-value usize (lasts few.ended tt (given, tt)) u (λ r. r ≡ min given 17) (id⊢ 𝓤 _) tt (λ r is e.
+          nothing ! $ use1 W (raw (LookedAt 𝓤 H A mem run .pre to-looked-at)) (asks-looked-at (are-lines .0 .1 .0)) $
+          calls-at ! fm (LookedAt 𝓤 H A mem run) known-looked-at to-looked-at (and-then ! (value ! (1 + spot 7) refl) (no-more !)) (λ u.
+          told-value usize (lasts looked-at.ended tt (given, tt)) u (λ r. r ≡ min given 17) (id⊢ 𝓤 _) tt (λ r is e.
           land ! (local !) (init ! (spot 4) refl (uint-lawful 𝓤 H A W w64 .typed r _ is .0)) $ rewrite ! (spot 4) (λ (x : Val). holds (tyInt w64) l₄ x) (ap only (is .0)) refl $
           forget ! (spot 7) refl $ counted r e))
 
@@ -455,8 +455,8 @@ module _ {M : Type 1} (𝓤 : URA M) (H : Heap 𝓤) (A : Atoms 𝓤) (W : Given
 -- ---- from the walk to the contract
 
 module _ {M : Type 1} (𝓤 : URA M) (H : Heap 𝓤) (A : Atoms 𝓤) (W : Given 𝓤 H A) (mem : Memory → SProp 𝓤) (run : Routine → Fun 𝓤) (𝓣 : Tables 𝓤 H)
-    (known-few : Triple 𝓤 (𝓣 .C #builder·gather·few) (Few 𝓤 H A mem run)) (known-empty : Triple 𝓤 (𝓣 .C #builder·gather·empty) (Empty 𝓤 H A mem run))
-    (known-put : Triple 𝓤 (𝓣 .C #builder·gather·put) (Put 𝓤 H A mem run)) (known-build-table : Triple 𝓤 (𝓣 .C #builder·build-table) (BuildTable 𝓤 H A mem run)) where
+    (known-looked-at : Triple 𝓤 (𝓣 .C #builder·table·lines-looked-at) (LookedAt 𝓤 H A mem run)) (known-empty-table : Triple 𝓤 (𝓣 .C #builder·table·empty-table) (EmptyTable 𝓤 H A mem run))
+    (known-add-line : Triple 𝓤 (𝓣 .C #builder·table·add-line) (AddLine 𝓤 H A mem run)) (known-build-table : Triple 𝓤 (𝓣 .C #builder·build-table) (BuildTable 𝓤 H A mem run)) where
   build-walks : Walks 𝓤 H A build.ended stayed (WpFn 𝓤 H (𝓣 .C) (𝓣 .Λ) code.function) (build.clauses 𝓤 H A mem run)
   build-walks =
       walked 𝓤 H A build.ended stayed (build.clauses 𝓤 H A mem run) (WpFn 𝓤 H (𝓣 .C) (𝓣 .Λ) code.function) (λ κs. (slice-vals, (slice-vals, (slice-vals, tt))))
@@ -464,7 +464,7 @@ module _ {M : Type 1} (𝓤 : URA M) (H : Heap 𝓤) (A : Atoms 𝓤) (W : Given
       (λ κs qs bounds a g are.
       via 𝓤 _ (fst∗ 𝓤 _ (emp 𝓤))
       (walk 𝓤 H A W mem run (κs .0) (κs .1 .0) (κs .1 .1 .0) (qs .0) (qs .1 .0) (qs .1 .1 .0) (a .0) (a .1 .0) (a .1 .1 .0)
-      𝓣 (fmOf 𝓤 H (W .laws) 𝓣) known-few known-empty known-put known-build-table (are .0) (are .1 .0) (are .1 .1 .0)))
+      𝓣 (fmOf 𝓤 H (W .laws) 𝓣) known-looked-at known-empty-table known-add-line known-build-table (are .0) (are .1 .0) (are .1 .1 .0)))
 
   build-meets : Meets 𝓤 H A build.signature (WpFn 𝓤 H (𝓣 .C) (𝓣 .Λ) code.function) (build.spec 𝓤 H A mem run)
   build-meets =
@@ -483,7 +483,7 @@ build-spec 𝓤 H 𝓜 𝓖 𝓡 =
     entered 𝓤 H (tripleOf 𝓤 H (𝓖 .A) build.signature (build.spec 𝓤 H (𝓖 .A) (𝓜 .mem) (𝓡 .run)))
     (tables 𝓤 H 𝓜 𝓡 code.env .C) (tables 𝓤 H 𝓜 𝓡 code.env .Λ) #builder·build code.function (code.unfolded 𝓤 H 𝓜 𝓡)
     (build-meets 𝓤 H (𝓖 .A) (givenOf 𝓤 H 𝓜 𝓖) (𝓜 .mem) (𝓡 .run) (tablesOf 𝓤 H 𝓜 (tables 𝓤 H 𝓜 𝓡 code.env))
-    (cited 𝓤 H (Few 𝓤 H (𝓖 .A) (𝓜 .mem) (𝓡 .run)) 𝓜 𝓡 code.env #builder·gather·few few-symbol.routine code.calls-builder·gather·few (few-theorem.met 𝓤 H 𝓜 𝓖 𝓡))
-    (cited 𝓤 H (Empty 𝓤 H (𝓖 .A) (𝓜 .mem) (𝓡 .run)) 𝓜 𝓡 code.env #builder·gather·empty empty-symbol.routine code.calls-builder·gather·empty (empty-theorem.met 𝓤 H 𝓜 𝓖 𝓡))
-    (cited 𝓤 H (Put 𝓤 H (𝓖 .A) (𝓜 .mem) (𝓡 .run)) 𝓜 𝓡 code.env #builder·gather·put put-symbol.routine code.calls-builder·gather·put (put-theorem.met 𝓤 H 𝓜 𝓖 𝓡))
+    (cited 𝓤 H (LookedAt 𝓤 H (𝓖 .A) (𝓜 .mem) (𝓡 .run)) 𝓜 𝓡 code.env #builder·table·lines-looked-at looked-at-symbol.routine code.calls-builder·table·lines-looked-at (looked-at-theorem.met 𝓤 H 𝓜 𝓖 𝓡))
+    (cited 𝓤 H (EmptyTable 𝓤 H (𝓖 .A) (𝓜 .mem) (𝓡 .run)) 𝓜 𝓡 code.env #builder·table·empty-table empty-table-symbol.routine code.calls-builder·table·empty-table (empty-table-theorem.met 𝓤 H 𝓜 𝓖 𝓡))
+    (cited 𝓤 H (AddLine 𝓤 H (𝓖 .A) (𝓜 .mem) (𝓡 .run)) 𝓜 𝓡 code.env #builder·table·add-line add-line-symbol.routine code.calls-builder·table·add-line (add-line-theorem.met 𝓤 H 𝓜 𝓖 𝓡))
     (cited 𝓤 H (BuildTable 𝓤 H (𝓖 .A) (𝓜 .mem) (𝓡 .run)) 𝓜 𝓡 code.env #builder·build-table build-table-symbol.routine code.calls-builder·build-table (build-table-theorem.met 𝓤 H 𝓜 𝓖 𝓡)))

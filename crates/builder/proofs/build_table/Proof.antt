@@ -1,9 +1,9 @@
 use borrow.Author.Needs.{needs}
-use Rattle.builder.specs.GatherLaws.{places-within, places-taken, gathered-builds, gathered-refused}
+use Rattle.builder.specs.TableLaws.{places-within, places-taken, table-builds, table-refused}
 use Rattle.builder.proofs.build_table.Statement.{statement}
 use Rattle.builder.proofs.build_table.Tie as tie
 
-ruleset laws = (needs, places-within, places-taken, gathered-builds, gathered-refused)
+ruleset laws = (needs, places-within, places-taken, table-builds, table-refused)
 
 array-share-prefix-kinds : tie.Need-array-share-prefix-kinds
 array-share-prefix-kinds c = search needs

@@ -1,9 +1,9 @@
 use borrow.Author.Needs.{needs}
-use Rattle.builder.specs.GatherLaws.{gathered-more, gathered-many}
-use Rattle.builder.proofs.gather.put.Statement.{statement}
-use Rattle.builder.proofs.gather.put.Tie as tie
+use Rattle.builder.specs.TableLaws.{table-more, table-many}
+use Rattle.builder.proofs.table.add_line.Statement.{statement}
+use Rattle.builder.proofs.table.add_line.Tie as tie
 
-ruleset laws = (needs, gathered-more, gathered-many)
+ruleset laws = (needs, table-more, table-many)
 
 mul-more : tie.Need-mul-more
 mul-more c = search laws
@@ -26,8 +26,8 @@ returns c = search laws
 returns-2 : tie.Need-returns-2
 returns-2 c = search laws
 
-pub put-spec : {M : Type 1} → statement M
-put-spec =
+pub add-line-spec : {M : Type 1} → statement M
+add-line-spec =
     tie.close
     (tie.spec
     mul-more

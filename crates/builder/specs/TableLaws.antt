@@ -1,4 +1,4 @@
--- A table gathered from a lent list of lines, line by line.
+-- A table made of a lent list of lines, one by one: what it holds, and what is built of it.
 use mathlib.Core.Path.{_≡_, refl, sym, ap, subst, _∙_}
 use mathlib.Core.List.{List, [], _∷_, _++_}
 use Prim.Native.Nat.{ℕ, _+_, _≤_, _<_, min}
@@ -11,7 +11,7 @@ use Rattle.laws.specs.Cases.{split}
 use Rattle.refusals.specs.declared.Filled.{Filled}
 use Rattle.refusals.specs.Refusals.{Fills}
 use Rattle.builder.specs.declared.KindAndLength.{KindAndLength}
-use Rattle.builder.specs.declared.Table.{Table}
+use Rattle.builder.specs.declared.table.Table.{Table}
 use Rattle.builder.specs.Build.{buildVerdict, buildImage}
 use Rattle.builder.specs.Lines.{paired, linesGiven}
 use Rattle.builder.specs.GivenLaws.{given-at-most, given-counted, given-append}
@@ -20,19 +20,19 @@ abbrev tableLines : Table → List KindAndLength
 tableLines table = linesGiven (take (table .count) (table .kinds)) (take (table .count) (table .lengths))
 
 -- the table has these lines, or says that they are more than 16
-pub record Gathered (table : Table) (lines : List KindAndLength) : Type 0 where
+pub record TableHolds (table : Table) (lines : List KindAndLength) : Type 0 where
   pub all : table .count ≤ 16 → tableLines table ≡ lines
   pub many : 16 < table .count → 16 < length lines
 
 -- ---- one line more
 
-module _ (table : Table) (lines : List KindAndLength) (line : KindAndLength) (h : Gathered table lines) (a : length (table .kinds) ≡ 16) (b : length (table .lengths) ≡ 16) where
+module _ (table : Table) (lines : List KindAndLength) (line : KindAndLength) (h : TableHolds table lines) (a : length (table .kinds) ≡ 16) (b : length (table .lengths) ≡ 16) where
   even : table .count ≤ 16 → length (take (table .count) (table .kinds)) ≡ length (take (table .count) (table .lengths))
   even f = length-take-le (table .count) (table .kinds) (omega arith) ∙ sym (length-take-le (table .count) (table .lengths) (omega arith))
 
-  pub gathered-more : table .count < 16
-      → Gathered (record { kinds = set (table .kinds) (table .count) (line .kind); lengths = set (table .lengths) (table .count) (line .length); count = table .count + 1 }) (lines ++ line ∷ [])
-  gathered-more f =
+  pub table-more : table .count < 16
+      → TableHolds (record { kinds = set (table .kinds) (table .count) (line .kind); lengths = set (table .lengths) (table .count) (line .length); count = table .count + 1 }) (lines ++ line ∷ [])
+  table-more f =
       let k : table .count < length (table .kinds) = omega arith in
       let l : table .count < length (table .lengths) = omega arith in
       let n : table .count ≤ 16 = omega arith in
@@ -41,8 +41,8 @@ module _ (table : Table) (lines : List KindAndLength) (line : KindAndLength) (h 
         many = λ m. absurd (omega arith);
       }
 
-  pub gathered-many : (kinds lengths : List ℕ) → 16 ≤ table .count → Gathered (record { kinds = kinds; lengths = lengths; count = 17 }) (lines ++ line ∷ [])
-  gathered-many kinds lengths f = record { all = λ z. absurd (omega arith); many = λ _. over }
+  pub table-many : (kinds lengths : List ℕ) → 16 ≤ table .count → TableHolds (record { kinds = kinds; lengths = lengths; count = 17 }) (lines ++ line ∷ [])
+  table-many kinds lengths f = record { all = λ z. absurd (omega arith); many = λ _. over }
     where
       over : 16 < length (lines ++ line ∷ [])
       over =
@@ -55,17 +55,17 @@ module _ (table : Table) (lines : List KindAndLength) (line : KindAndLength) (h 
           omega arith)
           (λ z. let m = h .many z in omega arith)
 
-pub gathered-none : (kinds lengths : List ℕ) → Gathered (record { kinds = kinds; lengths = lengths; count = 0 }) []
+pub table-none : (kinds lengths : List ℕ) → TableHolds (record { kinds = kinds; lengths = lengths; count = 0 }) []
 unfolding linesGiven paired
-gathered-none kinds lengths = record { all = λ _. refl; many = λ m. absurd (omega arith) }
+table-none kinds lengths = record { all = λ _. refl; many = λ m. absurd (omega arith) }
 
 -- ---- the whole list
 
 -- a table of the lines that are looked at is one of all lines
-pub gathered-all : (table : Table) (lines : List KindAndLength) (n : ℕ) → n ≡ min (length lines) 17 → Gathered table (take n lines) → Gathered table lines
-gathered-all table lines n e h =
+pub table-all : (table : Table) (lines : List KindAndLength) (n : ℕ) → n ≡ min (length lines) 17 → TableHolds table (take n lines) → TableHolds table lines
+table-all table lines n e h =
     split (length lines) 17
-    (λ f. subst (Gathered table) (take-all n lines (omega arith)) h)
+    (λ f. subst (TableHolds table) (take-all n lines (omega arith)) h)
     (λ f. record {
       all = λ z. absurd (
           let same = ap length (h .all z) in
@@ -92,10 +92,10 @@ module _ (places : List ℕ) (count : ℕ) (h : length places ≡ 16) (f : count
 
 -- what is built of the table's lines, or of none where there are too many, is what is built of all
 module _ (table : Table) (size : ℕ) (bodies before after : List ℕ) (r : Filled) where
-  pub gathered-builds : table .count ≤ 16 → Fills (buildImage size (tableLines table) bodies) before r after
-      → (lines : List KindAndLength) → Gathered table lines → Fills (buildImage size lines bodies) before r after
-  gathered-builds f fills lines h = rw (h .all f) at fills
+  pub table-builds : table .count ≤ 16 → Fills (buildImage size (tableLines table) bodies) before r after
+      → (lines : List KindAndLength) → TableHolds table lines → Fills (buildImage size lines bodies) before r after
+  table-builds f fills lines h = rw (h .all f) at fills
 
-  pub gathered-refused : 16 < table .count → Fills (buildImage size (linesGiven [] []) bodies) before r after
-      → (lines : List KindAndLength) → Gathered table lines → Fills (buildImage size lines bodies) before r after
-  gathered-refused f fills lines h = rw (refused-alike size lines bodies (h .many f)) at fills
+  pub table-refused : 16 < table .count → Fills (buildImage size (linesGiven [] []) bodies) before r after
+      → (lines : List KindAndLength) → TableHolds table lines → Fills (buildImage size lines bodies) before r after
+  table-refused f fills lines h = rw (refused-alike size lines bodies (h .many f)) at fills
