@@ -1,6 +1,6 @@
 // The image of a list of contents lines and their bodies.
 ghost use mathlib.Core.List.{List};
-ghost use lib.ListN.{length};
+ghost use lib.ListN.{length, take};
 ghost use Rattle.refusals.specs.Refusals.{Fills};
 ghost use Rattle.refusals.specs.RefusalsLaws.{Begins};
 ghost use Rattle.builder.specs.Build.{buildImage};
@@ -52,16 +52,13 @@ pub fn build_from_numbers(
     refusals::settled(answer, image)
 }
 
-// The builder on a table of lines. Of more than 16 lines it hands on none: both are refused 18.
+// The builder on a table of the lines that are looked at.
 fn build_table(table: Table, bodies: &[u8], image: &mut [u8]) -> Filled
-    ensures { λ r. ⌜ ((lines : List KindAndLength) → TableHolds table lines → Fills (buildImage (length (now (image .entry))) lines (now (bodies .entry))) (now (image .entry)) r (now (image .exit))) ⌝ }
+    ensures { λ r. ⌜ ((lines : List KindAndLength) → TableHolds table (take 17 lines) → Fills (buildImage (length (now (image .entry))) lines (now (bodies .entry))) (now (image .entry)) r (now (image .exit))) ⌝ }
 {
     let kinds = table.kinds;
     let lengths = table.lengths;
-    let count = table.count;
-    if 16 < count {
-        return build_from_numbers(&kinds[..0], &lengths[..0], bodies, image);
-    }
+    let count = table::lines_looked_at(table.count);
     build_from_numbers(&kinds[..count], &lengths[..count], bodies, image)
 }
 
