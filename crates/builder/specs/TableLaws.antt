@@ -1,20 +1,19 @@
 -- A table made of a lent list of lines, one by one: what it holds, and what is built of it.
-use mathlib.Core.Path.{_≡_, refl, sym, ap, subst, _∙_}
+use mathlib.Core.Path.{_≡_, refl, sym, ap, _∙_}
 use mathlib.Core.List.{List, [], _∷_, _++_}
 use Prim.Native.Nat.{ℕ, _+_, _≤_, _<_, min}
 use native.Mathlib.Numerals.{add-one}
 use native.Mathlib.Omega.{arith}
 use borrow.Author.Tests.{le-leb, lt-leb}
-use lib.ListN.{length, take, set, length-append, length-take}
+use lib.ListN.{length, take, set}
 use lib.Seq.{take-suc-set, take-all, length-take-le}
 use Rattle.laws.specs.Cases.{split}
 use Rattle.refusals.specs.declared.Filled.{Filled}
-use Rattle.refusals.specs.Refusals.{Fills}
 use Rattle.builder.specs.declared.KindAndLength.{KindAndLength}
 use Rattle.builder.specs.declared.table.Table.{Table}
-use Rattle.builder.specs.Build.{buildVerdict, buildImage}
+use Rattle.builder.specs.Build.{buildVerdict, buildImage, Builds}
 use Rattle.builder.specs.Lines.{paired, linesGiven}
-use Rattle.builder.specs.GivenLaws.{given-at-most, given-counted, given-append}
+use Rattle.builder.specs.GivenLaws.{given-counted, given-append}
 
 abbrev tableLines : Table → List KindAndLength
 tableLines table = linesGiven (take (table .count) (table .kinds)) (take (table .count) (table .lengths))
@@ -96,10 +95,12 @@ module _ (places : List ℕ) (count n : ℕ) (h : length places ≡ 17) (e : n �
   pub places-taken : n ≡ length (take n places)
   places-taken = sym (length-take-le n places places-within)
 
--- what is built of the table's lines is what is built of all
-pub table-builds : (table : Table) (n size : ℕ) (bodies before after : List ℕ) (r : Filled) → n ≡ min (table .count) 17
-    → Fills (buildImage size (linesGiven (take n (table .kinds)) (take n (table .lengths))) bodies) before r after
-    → (lines : List KindAndLength) → TableHolds table (take 17 lines) → Fills (buildImage size lines bodies) before r after
-table-builds table n size bodies before after r e fills lines h =
+-- what is built of the table's lines is what is built of all, of whatever lines the table holds those that are looked at
+abbrev pub TableBuilds : Table → (bodies before : List ℕ) → Filled → (after : List ℕ) → Type 0
+TableBuilds table bodies before r after = (lines : List KindAndLength) → TableHolds table (take 17 lines) → Builds lines bodies before r after
+
+pub table-builds : (table : Table) (n : ℕ) (bodies before after : List ℕ) (r : Filled) → n ≡ min (table .count) 17
+    → Builds (linesGiven (take n (table .kinds)) (take n (table .lengths))) bodies before r after → TableBuilds table bodies before r after
+table-builds table n bodies before after r e built lines h =
     let all : n ≡ table .count = omega (arith, h .room) in
-    rw (all, h .are, looked-at-decide size lines bodies) at fills
+    rw (all, h .are, looked-at-decide (length before) lines bodies) at built

@@ -1,17 +1,11 @@
 // The image of a list of contents lines and their bodies.
-ghost use mathlib.Core.List.{List};
-ghost use lib.ListN.{length, take};
-ghost use Rattle.refusals.specs.Refusals.{Fills};
-ghost use Rattle.refusals.specs.RefusalsLaws.{Begins};
-ghost use Rattle.builder.specs.Build.{buildImage};
+ghost use Rattle.builder.specs.Build.{Builds};
 ghost use Rattle.builder.specs.Lines.{linesGiven};
-ghost use Rattle.builder.specs.TableLaws.{TableHolds};
+ghost use Rattle.builder.specs.TableLaws.{TableBuilds};
+ghost use Rattle.builder.specs.WriteLaws.{BuildBegins};
 use refusals::Filled;
 use refusals::Verdict;
 use table::Table;
-
-// Where lines and bodies stand.
-mod place;
 
 // Refusals 18, 19 and 17.
 mod check;
@@ -30,7 +24,7 @@ pub struct KindAndLength {
 
 // Checks, and writes the image at the buffer's start where nothing is refused. What lies after it in the buffer is not cleared here.
 fn check_and_put(kinds: &[u32], lengths: &[usize], bodies: &[u8], image: &mut [u8]) -> Filled
-    ensures { λ r. ⌜ Begins (buildImage (length (now (image .entry))) (linesGiven (now (kinds .entry)) (now (lengths .entry))) (now (bodies .entry))) r (now (image .exit)) ⌝ }
+    ensures { λ r. ⌜ BuildBegins (now (kinds .entry)) (now (lengths .entry)) (now (bodies .entry)) (now (image .entry)) r (now (image .exit)) ⌝ }
 {
     let verdict = check::build_verdict(kinds, lengths, bodies, image.len());
     match verdict {
@@ -46,7 +40,7 @@ pub fn build_from_numbers(
     bodies: &[u8],
     image: &mut [u8],
 ) -> Filled
-    ensures { λ r. ⌜ Fills (buildImage (length (now (image .entry))) (linesGiven (now (kinds .entry)) (now (lengths .entry))) (now (bodies .entry))) (now (image .entry)) r (now (image .exit)) ⌝ }
+    ensures { λ r. ⌜ Builds (linesGiven (now (kinds .entry)) (now (lengths .entry))) (now (bodies .entry)) (now (image .entry)) r (now (image .exit)) ⌝ }
 {
     let answer = check_and_put(kinds, lengths, bodies, image);
     refusals::settled(answer, image)
@@ -54,7 +48,7 @@ pub fn build_from_numbers(
 
 // The builder on a table of the lines that are looked at.
 fn build_table(table: Table, bodies: &[u8], image: &mut [u8]) -> Filled
-    ensures { λ r. ⌜ ((lines : List KindAndLength) → TableHolds table (take 17 lines) → Fills (buildImage (length (now (image .entry))) lines (now (bodies .entry))) (now (image .entry)) r (now (image .exit))) ⌝ }
+    ensures { λ r. ⌜ TableBuilds table (now (bodies .entry)) (now (image .entry)) r (now (image .exit)) ⌝ }
 {
     let kinds = table.kinds;
     let lengths = table.lengths;
@@ -64,7 +58,7 @@ fn build_table(table: Table, bodies: &[u8], image: &mut [u8]) -> Filled
 
 // The builder on a lent list of lines, of which no more than 17 are looked at.
 pub fn build(lines: &[KindAndLength], bodies: &[u8], image: &mut [u8]) -> Filled
-    ensures { λ r. ⌜ Fills (buildImage (length (now (image .entry))) (now (lines .entry)) (now (bodies .entry))) (now (image .entry)) r (now (image .exit)) ⌝ }
+    ensures { λ r. ⌜ Builds (now (lines .entry)) (now (bodies .entry)) (now (image .entry)) r (now (image .exit)) ⌝ }
 {
     let count = table::lines_looked_at(lines.len());
     let mut table = table::empty_table();

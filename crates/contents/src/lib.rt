@@ -3,6 +3,8 @@ ghost use mathlib.Core.Path.{_≡_};
 ghost use Rattle.numbers.specs.Fields.{numberAt};
 ghost use Rattle.image.specs.Contents.{lineCount, contentsVerdict};
 ghost use Rattle.contents.specs.Lines.{lineIn, lineAt};
+use limits::HEAD_SIZE;
+use limits::LINE_SIZE;
 use numbers::fields;
 use numbers::slices;
 use refusals::Verdict;
@@ -29,7 +31,7 @@ pub fn line_count(image: &[u8]) -> usize
 fn eight_bytes(bytes: &[u8]) -> u64
     ensures { λ r. ⌜ r ≡ numberAt 8 (now (bytes .entry)) 0 ⌝ }
 {
-    if bytes.len() < 8 {
+    if bytes.len() < LINE_SIZE {
         let low = fields::number4(bytes, 0) as u64;
         let high = fields::number4(bytes, 4) as u64;
         return low + 4294967296 * high;
@@ -60,14 +62,17 @@ pub fn line_in(bytes: &[u8]) -> ContentsLine
     }
 }
 
-// Bytes past the end are 0. From line 2^60 on the place would wrap, and no slice is so long.
+// From line 2^60 on a line's place would wrap, and no slice is so long.
+const FIRST_FAR_LINE: usize = 1152921504606846976;
+
+// Bytes past the end are 0.
 pub fn line_at(image: &[u8], line: usize) -> ContentsLine
     ensures { λ r. ⌜ r ≡ lineAt (now (image .entry)) line ⌝ }
 {
-    if 1152921504606846976 <= line {
+    if FIRST_FAR_LINE <= line {
         return line_in(slices::part(image, 0, 0));
     }
-    line_in(slices::part(image, 2 + 8 * line, 8))
+    line_in(slices::part(image, HEAD_SIZE + LINE_SIZE * line, LINE_SIZE))
 }
 
 // Refusals 5 to 7 of an image of `size` bytes, by its contents alone: the bodies need not be there.

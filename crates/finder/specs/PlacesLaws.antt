@@ -58,7 +58,10 @@ inside-stated image zero i kind h = tt
 inside-stated image (suc left) i kind h =
     decide (eqb kind (kindAt image i))
     (λ e. rw e (rw (add-zero i) at (h 0 (omega arith))))
-    (λ e. rw e (inside-stated image left (i + 1) kind (λ (k : ℕ) (l : k < left). let same : i + suc k ≡ i + 1 + k = omega arith in rw same at (h (suc k) (omega arith)))))
+    (λ e.
+    let later : (k : ℕ) → k < left → offsetAt image (i + 1 + k) + lengthAt image (i + 1 + k) ≤ length image =
+    λ k l. let same : i + suc k ≡ i + 1 + k = omega arith in rw same at (h (suc k) (omega arith)) in
+    rw e (inside-stated image left (i + 1) kind later))
 
 -- ---- what is found, by its place
 

@@ -8,6 +8,7 @@ use native.Mathlib.Omega.{arith}
 use borrow.Author.Tests.{le-leb, lt-ltb, eq-eqb, leb-true, ltb-true, eqb-true}
 use lib.Dec.{leb, ltb, eqb}
 use lib.ListN.{take}
+use Rattle.limits.specs.Limits.{largestImage, mostLines}
 use Rattle.laws.specs.Cases.{both-left, both-right}
 use Rattle.numbers.specs.Fields.{numberAt}
 use Rattle.numbers.specs.FieldsLaws.{number-within}
@@ -25,19 +26,19 @@ each a b c e = let two = both-left (a && b) c e in (both-left a b two, both-righ
 -- 5 is not given
 pub record StartRight (size : ℕ) (contents : List ℕ) : Type 0 where
   pub enough : 2 ≤ size
-  pub most : size ≤ 4096
+  pub most : size ≤ largestImage
   pub marked : numberAt 1 contents 0 ≡ 0x51
 
 -- 6 is not given
 pub record CountRight (size : ℕ) (contents : List ℕ) : Type 0 where
   pub some : 1 ≤ lineCount contents
-  pub few : lineCount contents ≤ 16
+  pub few : lineCount contents ≤ mostLines
   pub room : linePlace (lineCount contents) ≤ size
 
 module _ (size : ℕ) (contents : List ℕ) where
   pub start-passes : StartRight size contents → startVerdict size contents ≡ Accepted
   unfolding startVerdict
-  start-passes s = rw (le-leb 2 size (s .enough), le-leb size 4096 (s .most), eq-eqb (numberAt 1 contents 0) 0x51 (s .marked))
+  start-passes s = rw (le-leb 2 size (s .enough), le-leb size largestImage (s .most), eq-eqb (numberAt 1 contents 0) 0x51 (s .marked))
 
   pub start-passed : startVerdict size contents ≡ Accepted → StartRight size contents
   unfolding startVerdict
@@ -45,22 +46,24 @@ module _ (size : ℕ) (contents : List ℕ) where
       let sized = asked _ 5 0 (first-passed (sizeVerdict size) (markVerdict contents) e) in
       let marked = asked _ 5 0 (next-passed (sizeVerdict size) (markVerdict contents) e) in
       record {
-        enough = leb-true 2 size (both-left (leb 2 size) (leb size 4096) sized);
-        most = leb-true size 4096 (both-right (leb 2 size) (leb size 4096) sized);
+        enough = leb-true 2 size (both-left (leb 2 size) (leb size largestImage) sized);
+        most = leb-true size largestImage (both-right (leb 2 size) (leb size largestImage) sized);
         marked = eqb-true (numberAt 1 contents 0) 0x51 marked;
       }
 
   pub count-passes : CountRight size contents → countVerdict size contents ≡ Accepted
   unfolding countVerdict
-  count-passes s = rw (le-leb 1 (lineCount contents) (s .some), le-leb (lineCount contents) 16 (s .few), le-leb (linePlace (lineCount contents)) size (s .room))
+  count-passes s =
+      let n = lineCount contents in
+      rw (le-leb 1 n (s .some), le-leb n mostLines (s .few), le-leb (linePlace n) size (s .room))
 
   pub count-passed : countVerdict size contents ≡ Accepted → CountRight size contents
   unfolding countVerdict
   count-passed e =
-      let t = each (leb 1 (lineCount contents)) (leb (lineCount contents) 16) (leb (linePlace (lineCount contents)) size) (asked _ 6 0 e) in
+      let t = each (leb 1 (lineCount contents)) (leb (lineCount contents) mostLines) (leb (linePlace (lineCount contents)) size) (asked _ 6 0 e) in
       record {
         some = leb-true 1 (lineCount contents) (t .0);
-        few = leb-true (lineCount contents) 16 (t .1);
+        few = leb-true (lineCount contents) mostLines (t .1);
         room = leb-true (linePlace (lineCount contents)) size (t .2);
       }
 

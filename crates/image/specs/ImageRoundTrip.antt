@@ -104,10 +104,11 @@ module _ (image : List ℕ) (b : Bytes image) (good : layoutVerdict image ≡ Ac
   pub image-of-sections : imageOf (sections image) ≡ image
   unfolding imageOf
   image-of-sections =
-      let g = layout-passed image good in
+      let start = layout-passed image good .contents .started in
+      let none = zero-add (length (sections image)) in
       sym
-      (drop-two image 0 (g .contents .started .enough)
-      ∙ rw (← byte-at image 0, g .contents .started .marked, ← byte-at image 1, held .contents, zero-add (length (sections image)), sections-count image, held .bodies))
+      (drop-two image 0 (start .enough)
+      ∙ rw (← byte-at image 0, start .marked, ← byte-at image 1, held .contents, none, sections-count image, held .bodies))
 
 -- so one is told by its bodies: where each kind has the same body in two such images, or none in either, these are equal byte for byte
 pub same-bodies-same-image : (image image′ : List ℕ) → Bytes image → Bytes image′ → layoutVerdict image ≡ Accepted → layoutVerdict image′ ≡ Accepted

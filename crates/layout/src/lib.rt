@@ -3,6 +3,8 @@ ghost use mathlib.Core.Path.{_≡_};
 ghost use lib.ListN.{length};
 ghost use Rattle.image.specs.Contents.{contentsVerdict};
 ghost use Rattle.image.specs.Layout.{allSums, layoutVerdict};
+use limits::HEAD_SIZE;
+use limits::LINE_SIZE;
 use numbers::slices;
 use refusals::Verdict;
 use refusals::refused;
@@ -14,10 +16,10 @@ fn sums(image: &[u8]) -> Verdict
 {
     let count = contents::line_count(image);
     let mut i = 0;
-    let mut offset = 2 + 8 * count;
+    let mut offset = HEAD_SIZE + LINE_SIZE * count;
     while i < count {
-        let place = 2 + 8 * i;
-        let line = contents::line_in(&image[place..place + 8]);
+        let place = HEAD_SIZE + LINE_SIZE * i;
+        let line = contents::line_in(&image[place..place + LINE_SIZE]);
         let end = offset + line.length as usize;
         let body = &image[offset..end];
         if slices::byte_sum(body) != line.sum {

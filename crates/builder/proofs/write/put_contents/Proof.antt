@@ -13,8 +13,11 @@ Inv-loop kinds lengths bodies image₀ first start₀ i₀ image start i = Writi
 abbrev μ-loop : tie.MeasureT-loop
 μ-loop kinds lengths bodies image₀ first start₀ i₀ image start i = length kinds - i
 
-line-place-requires : tie.Need-line-place-requires Inv-loop μ-loop
-line-place-requires c κs = search laws
+mul-first : tie.Need-mul-first Inv-loop μ-loop
+mul-first c = search laws
+
+add-first : tie.Need-add-first Inv-loop μ-loop
+add-first c = search laws
 
 loop-holds : tie.Need-loop-holds Inv-loop μ-loop
 loop-holds c = search laws
@@ -28,11 +31,14 @@ shared-slice-read-length c = search laws
 body-sum-requires : tie.Need-body-sum-requires Inv-loop μ-loop
 body-sum-requires c κs = search laws
 
-line-place-requires-2 : tie.Need-line-place-requires-2 Inv-loop μ-loop
-line-place-requires-2 c κs = search laws
-
 mul-put-line : tie.Need-mul-put-line Inv-loop μ-loop
 mul-put-line c = search laws
+
+add-put-line : tie.Need-add-put-line Inv-loop μ-loop
+add-put-line c = search laws
+
+mul-put-line-2 : tie.Need-mul-put-line-2 Inv-loop μ-loop
+mul-put-line-2 c = search laws
 
 shared-slice-read-put-line : tie.Need-shared-slice-read-put-line Inv-loop μ-loop
 shared-slice-read-put-line c = search laws
@@ -40,8 +46,8 @@ shared-slice-read-put-line c = search laws
 cast-put-line : tie.Need-cast-put-line Inv-loop μ-loop
 cast-put-line c = search laws
 
-add-put-line : tie.Need-add-put-line Inv-loop μ-loop
-add-put-line c = search laws
+add-put-line-2 : tie.Need-add-put-line-2 Inv-loop μ-loop
+add-put-line-2 c = search laws
 
 cast-put-line-2 : tie.Need-cast-put-line-2 Inv-loop μ-loop
 cast-put-line-2 c = search laws
@@ -76,16 +82,18 @@ put-contents-spec =
     (tie.spec
     Inv-loop
     μ-loop
-    line-place-requires
+    mul-first
+    add-first
     loop-holds
     mul-length
     shared-slice-read-length
     body-sum-requires
-    line-place-requires-2
     mul-put-line
+    add-put-line
+    mul-put-line-2
     shared-slice-read-put-line
     cast-put-line
-    add-put-line
+    add-put-line-2
     cast-put-line-2
     cast-put-line-3
     put-line-requires

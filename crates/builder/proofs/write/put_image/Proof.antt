@@ -6,25 +6,28 @@ use Rattle.builder.proofs.write.put_image.Tie as tie
 ruleset laws = (needs, image-written)
 
 cast-put-start : tie.Need-cast-put-start
-cast-put-start c = search needs
+cast-put-start c = search laws
 
 put-start-requires : tie.Need-put-start-requires
-put-start-requires c κs = search needs
+put-start-requires c κs = search laws
 
 put-contents-requires : tie.Need-put-contents-requires
-put-contents-requires c κs = search needs
+put-contents-requires c κs = search laws
 
-line-place-requires : tie.Need-line-place-requires
-line-place-requires c κs = search needs
+mul-first : tie.Need-mul-first
+mul-first c = search laws
+
+add-first : tie.Need-add-first
+add-first c = search laws
 
 put-bodies-requires : tie.Need-put-bodies-requires
-put-bodies-requires c κs = search needs
+put-bodies-requires c κs = search laws
 
-image-length-requires : tie.Need-image-length-requires
-image-length-requires c κs = search needs
+add-t9 : tie.Need-add-t9
+add-t9 c = search laws
 
 same-length : tie.Need-same-length
-same-length c = search needs
+same-length c = search laws
 
 returns : tie.Need-returns
 returns c = search laws
@@ -36,8 +39,9 @@ put-image-spec =
     cast-put-start
     put-start-requires
     put-contents-requires
-    line-place-requires
+    mul-first
+    add-first
     put-bodies-requires
-    image-length-requires
+    add-t9
     same-length
     returns)
