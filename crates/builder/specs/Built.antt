@@ -1,4 +1,4 @@
--- What the builder's images are.
+-- What the builder's images are: exactly those with a good layout, and in each the sections given.
 use mathlib.Core.Path.{_≡_, sym, ap, _∙_}
 use mathlib.Core.Logic.{_↔_}
 use mathlib.Core.List.{List}

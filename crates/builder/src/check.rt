@@ -1,4 +1,4 @@
-// Refusals 18, 19 and 17, in that order.
+// The builder's checks: refusals 18, 19 and 17, in that order.
 ghost use mathlib.Core.Path.{_≡_};
 ghost use Prim.Native.Nat.{_+_, _≤_};
 ghost use lib.Dec.{eqb};

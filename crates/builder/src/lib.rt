@@ -1,4 +1,4 @@
-// The image of a list of contents lines and their bodies.
+// The builder: the image of a list of contents lines and their bodies.
 ghost use Rattle.builder.specs.Build.{Builds};
 ghost use Rattle.builder.specs.Lines.{linesGiven};
 ghost use Rattle.builder.specs.TableLaws.{TableBuilds};
@@ -7,7 +7,7 @@ use refusals::Filled;
 use refusals::Verdict;
 use table::Table;
 
-// Refusals 18, 19 and 17.
+// The checks.
 mod check;
 
 // The image's bytes.

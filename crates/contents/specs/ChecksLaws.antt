@@ -65,10 +65,10 @@ module _ (size : ℕ) (contents : List ℕ) (count : ℕ) (c : count ≡ lineCou
     pub too-many : 16 < count → r ≡ countVerdict size contents
     too-many h = count-wrong (λ (s : CountRight size contents). omega arith)
 
-    pub no-room : size < 2 + 8 * count → r ≡ countVerdict size contents
+    pub no-room : size < linePlace count → r ≡ countVerdict size contents
     no-room h = count-wrong (λ (s : CountRight size contents). omega arith)
 
-  pub count-right : 1 ≤ count → count ≤ 16 → 2 + 8 * count ≤ size → Accepted ≡ countVerdict size contents
+  pub count-right : 1 ≤ count → count ≤ 16 → linePlace count ≤ size → Accepted ≡ countVerdict size contents
   count-right h k room = sym (count-passes size contents (record { some = omega arith; few = omega arith; room = omega arith }))
 
 -- ---- 7
@@ -88,10 +88,10 @@ pub record LinesRightBefore (size : ℕ) (contents : List ℕ) (count i previous
   pub rest : linesVerdict size contents (count - i) i previous offset ≡ allLines size contents
   pub few : count < 256
   pub passed : i ≤ count
-  pub near : offset ≤ 2 + 8 * count + 65535 * i
+  pub near : offset ≤ linePlace count + 65535 * i
 
 module _ (size : ℕ) (contents : List ℕ) (count : ℕ) where
-  pub lines-first : Bytes contents → count ≡ lineCount contents → LinesRightBefore size contents count 0 0 (2 + 8 * count)
+  pub lines-first : Bytes contents → count ≡ lineCount contents → LinesRightBefore size contents count 0 0 (linePlace count)
   lines-first b c = record { rest = rw (sub-zero count, c); few = few-lines contents count b c; passed = omega arith; near = omega arith }
 
   module _ (i previous offset : ℕ) (j : LinesRightBefore size contents count i previous offset) where

@@ -1,4 +1,4 @@
-// The contents of an image: what a line says, and refusals 5 to 7. Every function answers for every slice.
+// The contents of an image: what a line says, and refusals 5 to 7; every function answers for every slice.
 ghost use mathlib.Core.Path.{_≡_};
 ghost use Rattle.numbers.specs.Fields.{numberAt};
 ghost use Rattle.image.specs.Contents.{lineCount, contentsVerdict};

@@ -1,5 +1,5 @@
--- The contents of an image: how many lines they have, what each says, and refusals 5 to 7. These need the image's size and its
--- contents, and no body: `contents` may be the image itself or any part of it from its start on.
+-- The contents of an image: how many lines they have, what each says, and refusals 5 to 7.
+-- They need the image's size and its contents, and no body: `contents` may be the image itself or any part of it from its start on.
 use mathlib.Core.Bool.{Bool, _&&_}
 use mathlib.Core.List.{List}
 use Prim.Native.Nat.{ℕ, zero, suc, _+_, _*_}

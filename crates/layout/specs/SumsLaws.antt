@@ -1,7 +1,7 @@
 -- One law for each way out of the check of sums and of the whole layout.
 use mathlib.Core.List.{List}
 use mathlib.Core.Path.{_≡_, sym, _∙_}
-use Prim.Native.Nat.{ℕ, _+_, _-_, _*_, _%_, _≤_, _<_}
+use Prim.Native.Nat.{ℕ, _+_, _-_, _%_, _≤_, _<_}
 use native.Mathlib.Nat.{sub-zero, add-zero}
 use native.Mathlib.Omega.{arith}
 use borrow.Author.Tests.{eq-eqb, ne-eqb}
@@ -31,7 +31,7 @@ module _ (image : List ℕ) (count : ℕ) (good : contentsVerdict (length image)
   pub lines-few : count ≤ 16
   lines-few = omega (arith, contents-passed (length image) image good .counted .few)
 
-  pub sums-first : SumsRightBefore image count 0 (2 + 8 * count)
+  pub sums-first : SumsRightBefore image count 0 (linePlace count)
   sums-first =
       let g = contents-passed (length image) image good in
       record {
