@@ -20,8 +20,8 @@ use Rattle.image.specs.Contents.{lineCount, linePlace, kindAt, offsetAt, length
 use Rattle.image.specs.Layout.{bodyAt, layoutVerdict}
 use Rattle.image.specs.LayoutLaws.{body-within}
 use Rattle.image.specs.Sections.{sectionsFrom, sections, bodiesOf, imageOf}
-use Rattle.image.specs.RoundTrip.{image-bodies}
-use Rattle.image.specs.ImageFromSections.{sections-count, image-of-sections}
+use Rattle.image.specs.SectionsRoundTrip.{image-bodies}
+use Rattle.image.specs.ImageRoundTrip.{sections-count, image-of-sections}
 use Rattle.builder.specs.declared.KindAndLength.{KindAndLength}
 use Rattle.builder.specs.Build.{sectionsOf, buildVerdict, buildImage}
 use Rattle.builder.specs.Lines.{linesGiven, kindsOf, lengthsOf, linesOf, noLine}

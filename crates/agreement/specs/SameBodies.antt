@@ -11,7 +11,7 @@ use Rattle.refusals.specs.declared.Verdict.the-variants.{Accepted}
 use Rattle.image.specs.Layout.{layoutVerdict}
 use Rattle.image.specs.Sections.{sections}
 use Rattle.image.specs.Find.{bodyOf}
-use Rattle.image.specs.ImageFromSections.{same-bodies-same-image}
+use Rattle.image.specs.ImageRoundTrip.{same-bodies-same-image}
 use Rattle.agreement.specs.LayoutAgrees.{layout-accepted-exactly}
 use Rattle.agreement.specs.KindsAgree.{found-is-had, had-is-found}
 

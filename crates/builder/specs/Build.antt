@@ -7,7 +7,9 @@ use lib.Dec.{leb, ltb, eqb}
 use lib.ListN.{length, take, drop}
 use Rattle.laws.specs.Bytes.{Bytes}
 use Rattle.refusals.specs.declared.Verdict.{Verdict}
-use Rattle.refusals.specs.Refusals.{Outcome, result, checked, ask, andThen}
+use Rattle.refusals.specs.declared.Filled.{Filled}
+use Rattle.refusals.specs.Refusals.{Outcome, result, checked, ask, andThen, Fills}
+use Rattle.limits.specs.Limits.{largestImage, mostLines}
 use Rattle.image.specs.Contents.{linePlace}
 use Rattle.image.specs.Sections.{Section, imageOf}
 use Rattle.builder.specs.declared.KindAndLength.{KindAndLength}
@@ -33,12 +35,16 @@ imageLength lines bodies = linePlace (length lines) + length bodies
 -- 18, 19, 17, for a buffer of `size` bytes
 unfoldable pub buildVerdict : (size : ℕ) → List KindAndLength → (bodies : List ℕ) → Verdict
 buildVerdict size lines bodies =
-    andThen (ask (leb 1 (length lines) && (leb (length lines) 16 && kindsRise 0 lines)) 18 0)
-    (andThen (ask (eqb (lengthsTotal lines) (length bodies) && leb (imageLength lines bodies) 4096) 19 0)
+    andThen (ask (leb 1 (length lines) && (leb (length lines) mostLines && kindsRise 0 lines)) 18 0)
+    (andThen (ask (eqb (lengthsTotal lines) (length bodies) && leb (imageLength lines bodies) largestImage) 19 0)
     (ask (leb (imageLength lines bodies) size) 17 0))
 
 unfoldable pub buildImage : (size : ℕ) → List KindAndLength → (bodies : List ℕ) → Outcome
 buildImage size lines bodies = checked (buildVerdict size lines bodies) (imageOf (sectionsOf lines bodies))
+
+-- the answer for a buffer that was `before`, and what it holds after
+abbrev pub Builds : List KindAndLength → (bodies before : List ℕ) → Filled → (after : List ℕ) → Type 0
+Builds lines bodies before r after = Fills (buildImage (length before) lines bodies) before r after
 
 -- an image that the builder makes of bytes
 pub record Built (image : List ℕ) : Type 0 where

@@ -9,6 +9,7 @@ use borrow.Author.Tests.{leb-true, ltb-true, eqb-true, le-leb, lt-ltb, eq-eqb, n
 use lib.Dec.{leb, ltb, eqb}
 use lib.ListN.{length, take, drop, getD, length-append, length-drop, take-append-drop}
 use lib.Seq.{length-take-le, take-append-seam, drop-append-seam, drop-drop}
+use Rattle.limits.specs.Limits.{largestImage, mostLines}
 use Rattle.laws.specs.Cases.{both-left, both-right}
 use Rattle.refusals.specs.declared.Verdict.the-variants.{Accepted}
 use Rattle.refusals.specs.Refusals.{ask}
@@ -30,7 +31,9 @@ pub bodies-whole : (lines : List KindAndLength) (bodies : List ℕ) → lengthsT
 unfolding bodiesOf sectionsOf lengthsTotal
 bodies-whole [] [] e = refl
 bodies-whole [] (b ∷ bodies) e = absurd (omega arith)
-bodies-whole (l ∷ lines) bodies e = rw (bodies-whole lines (drop (l .length) bodies) (omega (arith, length-drop (l .length) bodies))) (take-append-drop (l .length) bodies)
+bodies-whole (l ∷ lines) bodies e =
+    let rest = bodies-whole lines (drop (l .length) bodies) (omega (arith, length-drop (l .length) bodies)) in
+    rw rest (take-append-drop (l .length) bodies)
 
 pub sections-rise : (previous : ℕ) (lines : List KindAndLength) (bodies : List ℕ) → kindsRise previous lines ≡ true → Rising previous (sectionsOf lines bodies)
 unfolding kindsRise sectionsOf
@@ -74,7 +77,8 @@ body-given previous (l ∷ lines) bodies (suc i) e h =
     let rises = both-right (leb (l .kind) 255) _ (both-right (ltb previous (l .kind)) _ e) in
     let above = line-rises (l .kind) lines i rises (omega arith) in
     let other : getD lines i noLine .kind ≡ l .kind → ⊥ = λ s. omega arith in
-    rw (ne-eqb (getD lines i noLine .kind) (l .kind) other, body-given (l .kind) lines (drop (l .length) bodies) i rises (omega arith), drop-drop (lengthsTotal (take i lines)) (l .length) bodies)
+    let later = body-given (l .kind) lines (drop (l .length) bodies) i rises (omega arith) in
+    rw (ne-eqb (getD lines i noLine .kind) (l .kind) other, later, drop-drop (lengthsTotal (take i lines)) (l .length) bodies)
 
 -- ---- and back
 
@@ -111,21 +115,22 @@ lines-again (l ∷ lines) bodies e =
 
 -- what 18 asks, and what 19 asks
 abbrev pub linesRight : List KindAndLength → Bool
-linesRight lines = leb 1 (length lines) && (leb (length lines) 16 && kindsRise 0 lines)
+linesRight lines = leb 1 (length lines) && (leb (length lines) mostLines && kindsRise 0 lines)
 
 abbrev pub lengthsRight : List KindAndLength → (bodies : List ℕ) → Bool
-lengthsRight lines bodies = eqb (lengthsTotal lines) (length bodies) && leb (imageLength lines bodies) 4096
+lengthsRight lines bodies = eqb (lengthsTotal lines) (length bodies) && leb (imageLength lines bodies) largestImage
 
-pub record Passed (size : ℕ) (lines : List KindAndLength) (bodies : List ℕ) : Type 0 where
+-- what lines and bodies are for which none of 18, 19 and 17 is given
+pub record AcceptedLines (size : ℕ) (lines : List KindAndLength) (bodies : List ℕ) : Type 0 where
   pub some : 1 ≤ length lines
-  pub few : length lines ≤ 16
+  pub few : length lines ≤ mostLines
   pub rise : kindsRise 0 lines ≡ true
   pub whole : lengthsTotal lines ≡ length bodies
-  pub limit : imageLength lines bodies ≤ 4096
+  pub limit : imageLength lines bodies ≤ largestImage
   pub room : imageLength lines bodies ≤ size
 
 module _ (size : ℕ) (lines : List KindAndLength) (bodies : List ℕ) where
-  pub passed : buildVerdict size lines bodies ≡ Accepted → Passed size lines bodies
+  pub passed : buildVerdict size lines bodies ≡ Accepted → AcceptedLines size lines bodies
   unfolding buildVerdict
   passed e =
       let first = asked (linesRight lines) 18 0 (first-passed _ _ e) in
@@ -135,21 +140,21 @@ module _ (size : ℕ) (lines : List KindAndLength) (bodies : List ℕ) where
       let counted = both-right (leb 1 (length lines)) _ first in
       record {
         some = leb-true 1 (length lines) (both-left _ _ first);
-        few = leb-true (length lines) 16 (both-left _ _ counted);
-        rise = both-right (leb (length lines) 16) _ counted;
+        few = leb-true (length lines) mostLines (both-left _ _ counted);
+        rise = both-right (leb (length lines) mostLines) _ counted;
         whole = eqb-true (lengthsTotal lines) (length bodies) (both-left _ _ second);
-        limit = leb-true (imageLength lines bodies) 4096 (both-right (eqb (lengthsTotal lines) (length bodies)) _ second);
+        limit = leb-true (imageLength lines bodies) largestImage (both-right (eqb (lengthsTotal lines) (length bodies)) _ second);
         room = leb-true (imageLength lines bodies) size (asked _ 17 0 third);
       }
 
-  pub passes : Passed size lines bodies → buildVerdict size lines bodies ≡ Accepted
+  pub passes : AcceptedLines size lines bodies → buildVerdict size lines bodies ≡ Accepted
   unfolding buildVerdict
   passes p =
       rw (
         le-leb 1 (length lines) (p .some),
-        le-leb (length lines) 16 (p .few),
+        le-leb (length lines) mostLines (p .few),
         p .rise,
         eq-eqb (lengthsTotal lines) (length bodies) (p .whole),
-        le-leb (imageLength lines bodies) 4096 (p .limit),
+        le-leb (imageLength lines bodies) largestImage (p .limit),
         le-leb (imageLength lines bodies) size (p .room),
       )

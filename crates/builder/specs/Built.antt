@@ -1,4 +1,4 @@
--- What the builder's images are.
+-- What the builder's images are: exactly those with a good layout, and in each the sections given.
 use mathlib.Core.Path.{_≡_, sym, ap, _∙_}
 use mathlib.Core.Logic.{_↔_}
 use mathlib.Core.List.{List}
@@ -13,21 +13,21 @@ use Rattle.refusals.specs.Refusals.{result}
 use Rattle.refusals.specs.VerdictLaws.{checked-result}
 use Rattle.image.specs.Layout.{layoutVerdict}
 use Rattle.image.specs.Sections.{sections, bodiesOf, imageOf, Fit}
-use Rattle.image.specs.RoundTrip.{image-length, image-good, image-bytes, sections-of-image}
-use Rattle.image.specs.ImageFromSections.{sections-fit, sections-bytes, image-of-sections}
+use Rattle.image.specs.SectionsRoundTrip.{image-length, image-good, image-bytes, sections-of-image}
+use Rattle.image.specs.ImageRoundTrip.{sections-fit, sections-bytes, image-of-sections}
 use Rattle.image.specs.Find.{bodyOf, found}
 use Rattle.image.specs.FindLaws.{found-in-image}
 use Rattle.builder.specs.declared.KindAndLength.{KindAndLength}
 use Rattle.builder.specs.Build.{sectionsOf, buildVerdict, buildImage, Built}
 use Rattle.builder.specs.Lines.{linesOf, noLine, bodyGiven}
-use Rattle.builder.specs.BuildLaws.{line-small, line-short, body-given, Passed, passed, passes, sections-counted, bodies-whole, sections-rise, lines-counted, lines-total, lines-rise, sections-again}
+use Rattle.builder.specs.BuildLaws.{line-small, line-short, body-given, AcceptedLines, passed, passes, sections-counted, bodies-whole, sections-rise, lines-counted, lines-total, lines-rise, sections-again}
 
 module _ (size : ℕ) (lines : List KindAndLength) (bodies image : List ℕ) (made : buildImage size lines bodies ≡ result image) where
   checked-as : (buildVerdict size lines bodies ≡ Accepted) × (imageOf (sectionsOf lines bodies) ≡ image)
   unfolding buildImage
   checked-as = checked-result (buildVerdict size lines bodies) (imageOf (sectionsOf lines bodies)) image made
 
-  pub kept-to : Passed size lines bodies
+  pub kept-to : AcceptedLines size lines bodies
   kept-to = passed size lines bodies (checked-as .0)
 
   fit : Fit (sectionsOf lines bodies)
@@ -75,7 +75,7 @@ good-built size image b good room =
     let same = image-of-sections image b good in
     let long = sym (image-length ss) ∙ ap length same in
     let counted = lines-counted ss in
-    let p : Passed size (linesOf ss) (bodiesOf ss) = record {
+    let p : AcceptedLines size (linesOf ss) (bodiesOf ss) = record {
       some = omega (arith, fit .some);
       few = omega (arith, fit .few);
       rise = lines-rise 0 ss (fit .rising);

@@ -21,11 +21,16 @@ use Rattle.builder.specs.GivenLaws.{given-uneven, given-some, given-coun
 
 -- ---- 18
 
--- the kinds up to line i rise to `previous`, whatever the lengths: it and those left decide
-pub record Rising (kinds : List ℕ) (previous i : ℕ) : Type 0 where
-  pub rest : (lengths : List ℕ) → length kinds ≡ length lengths → leb previous 255 && kindsRise previous (linesFrom kinds lengths i) ≡ kindsRise 0 (linesGiven kinds lengths)
+-- whether kinds rise is said whatever the lengths,
+abbrev pub KindsJudged : (kinds : List ℕ) → Bool → Type 0
+KindsJudged kinds r = (lengths : List ℕ) → length kinds ≡ length lengths → r ≡ kindsRise 0 (linesGiven kinds lengths)
 
-pub rising-first : (kinds : List ℕ) → Rising kinds 0 0
+-- the kinds up to line i rise to `previous`, so it and those left decide
+pub record KindsRiseBefore (kinds : List ℕ) (previous i : ℕ) : Type 0 where
+  pub rest : (lengths : List ℕ) → length kinds ≡ length lengths
+      → leb previous 255 && kindsRise previous (linesFrom kinds lengths i) ≡ kindsRise 0 (linesGiven kinds lengths)
+
+pub rising-first : (kinds : List ℕ) → KindsRiseBefore kinds 0 0
 rising-first kinds = record { rest = λ lengths e. rw (lines-first kinds lengths e) }
 
 -- where the greater of two is at most 255, so is the other
@@ -39,23 +44,27 @@ greater-decides a b rest h =
     never-both true = refl
     never-both false = refl
 
-module _ (kinds : List ℕ) (previous i : ℕ) (h : Rising kinds previous i) where
+module _ (kinds : List ℕ) (previous i : ℕ) (h : KindsRiseBefore kinds previous i) where
   module _ (k : i < length kinds) where
     step : (lengths : List ℕ) → length kinds ≡ length lengths
-        → leb previous 255 && (ltb previous (getD kinds i 0) && (leb (getD kinds i 0) 255 && kindsRise (getD kinds i 0) (linesFrom kinds lengths (i + 1)))) ≡ kindsRise 0 (linesGiven kinds lengths)
+        → (let kind = getD kinds i 0 in leb previous 255 && (ltb previous kind && (leb kind 255 && kindsRise kind (linesFrom kinds lengths (i + 1)))))
+        ≡ kindsRise 0 (linesGiven kinds lengths)
     unfolding kindsRise
     step lengths e = rw (lines-more kinds lengths e i k) at (h .rest lengths e)
 
-    pub rising-more : previous < getD kinds i 0 → Rising kinds (getD kinds i 0) (i + 1)
+    pub rising-more : previous < getD kinds i 0 → KindsRiseBefore kinds (getD kinds i 0) (i + 1)
     rising-more l =
         record { rest = λ lengths e. sym (greater-decides previous (getD kinds i 0) _ l) ∙ (rw (lt-ltb previous _ l) at (step lengths e)) }
 
-    pub rising-low : getD kinds i 0 ≤ previous → (lengths : List ℕ) → length kinds ≡ length lengths → false ≡ kindsRise 0 (linesGiven kinds lengths)
+    pub rising-low : getD kinds i 0 ≤ previous → KindsJudged kinds false
     rising-low l lengths e = decide (leb previous 255) (λ t. rw (t, le-ltb previous _ l) at (step lengths e)) (λ t. rw t at (step lengths e))
 
-  pub rising-end : length kinds ≤ i → (lengths : List ℕ) → length kinds ≡ length lengths → leb previous 255 ≡ kindsRise 0 (linesGiven kinds lengths)
+  pub rising-end : length kinds ≤ i → KindsJudged kinds (leb previous 255)
   unfolding kindsRise
-  rising-end k lengths e = decide (leb previous 255) (λ t. t ∙ (rw (lines-end kinds lengths e i k, t) at (h .rest lengths e))) (λ t. t ∙ (rw (t) at (h .rest lengths e)))
+  rising-end k lengths e =
+      decide (leb previous 255)
+      (λ t. t ∙ (rw (lines-end kinds lengths e i k, t) at (h .rest lengths e)))
+      (λ t. t ∙ (rw t at (h .rest lengths e)))
 
 module _ (kinds lengths : List ℕ) where
   pub lines-uneven : (length kinds ≡ length lengths → ⊥) → false ≡ linesRight (linesGiven kinds lengths)
@@ -73,8 +82,8 @@ module _ (kinds lengths : List ℕ) where
         rw (given-counted kinds lengths e, le-leb 1 (length kinds) some, lt-leb (length kinds) 16 many)
 
     -- up to 16, or to any lower bound
-    pub lines-rise : (r : Bool) (most : ℕ) → most ≤ 16 → 1 ≤ length kinds → length kinds ≤ most
-        → ((others : List ℕ) → length kinds ≡ length others → r ≡ kindsRise 0 (linesGiven kinds others)) → r ≡ linesRight (linesGiven kinds lengths)
+    pub lines-rise : (r : Bool) (most : ℕ) → most ≤ 16 → 1 ≤ length kinds → length kinds ≤ most → KindsJudged kinds r
+        → r ≡ linesRight (linesGiven kinds lengths)
     lines-rise r most l h k rise =
         let few : length kinds ≤ 16 = omega arith in
         rw (given-counted kinds lengths e, le-leb 1 (length kinds) h, le-leb (length kinds) 16 few) (rise lengths e)
@@ -93,34 +102,37 @@ module _ (kinds lengths : List ℕ) where
 
 -- ---- 19
 
--- `left` of `whole` is left when the lengths up to line i are taken off
-pub record Adding (lengths : List ℕ) (whole left i : ℕ) : Type 0 where
-  pub rest : total lengths + left ≡ whole + total (drop i lengths)
+-- of `bytes` there is `left` when the lengths up to line i are taken off
+pub record Adding (lengths : List ℕ) (bytes left i : ℕ) : Type 0 where
+  pub rest : total lengths + left ≡ bytes + total (drop i lengths)
 
-pub adding-first : (lengths : List ℕ) (whole : ℕ) → Adding lengths whole whole 0
-adding-first lengths whole = record { rest = omega arith }
+pub adding-first : (lengths : List ℕ) (bytes : ℕ) → Adding lengths bytes bytes 0
+adding-first lengths bytes = record { rest = omega arith }
 
-module _ (lengths : List ℕ) (whole left i : ℕ) (h : Adding lengths whole left i) where
-  pub adding-more : i < length lengths → getD lengths i 0 ≤ left → Adding lengths whole (left - getD lengths i 0) (i + 1)
+module _ (lengths : List ℕ) (bytes left i : ℕ) (h : Adding lengths bytes left i) where
+  pub adding-more : i < length lengths → getD lengths i 0 ≤ left → Adding lengths bytes (left - getD lengths i 0) (i + 1)
   adding-more k l = let t = total-more lengths i k in let r = h .rest in record { rest = omega arith }
 
-  pub adding-short : i < length lengths → left < getD lengths i 0 → false ≡ eqb (total lengths) whole
-  adding-short k l = let t = total-more lengths i k in let r = h .rest in sym (ne-eqb _ _ (λ (e : total lengths ≡ whole). omega arith))
+  pub adding-short : i < length lengths → left < getD lengths i 0 → false ≡ eqb (total lengths) bytes
+  adding-short k l = let t = total-more lengths i k in let r = h .rest in sym (ne-eqb _ _ (λ (e : total lengths ≡ bytes). omega arith))
 
-  pub adding-end : length lengths ≤ i → eqb left 0 ≡ eqb (total lengths) whole
+  pub adding-end : length lengths ≤ i → eqb left 0 ≡ eqb (total lengths) bytes
   adding-end k =
       let t = total-end lengths i k in
       let r = h .rest in
       decide (eqb left 0)
-      (λ e. let z = eqb-true left 0 e in e ∙ sym (eq-eqb (total lengths) whole (omega arith)))
-      (λ e. e ∙ sym (ne-eqb (total lengths) whole (λ f. eqb-false left 0 e (omega arith))))
+      (λ e. let z = eqb-true left 0 e in e ∙ sym (eq-eqb (total lengths) bytes (omega arith)))
+      (λ e. e ∙ sym (ne-eqb (total lengths) bytes (λ f. eqb-false left 0 e (omega arith))))
+
+-- and whether lengths are right, whatever the kinds
+abbrev pub LengthsJudged : (lengths bodies : List ℕ) → Bool → Type 0
+LengthsJudged lengths bodies r = (kinds : List ℕ) → length kinds ≡ length lengths → r ≡ lengthsRight (linesGiven kinds lengths) bodies
 
 module _ (lengths bodies : List ℕ) (r : Bool) (e : r ≡ eqb (total lengths) (length bodies)) where
-  pub lengths-differ : not r ≡ true → (kinds : List ℕ) → length kinds ≡ length lengths → false ≡ lengthsRight (linesGiven kinds lengths) bodies
+  pub lengths-differ : not r ≡ true → LengthsJudged lengths bodies false
   lengths-differ t kinds even = rw (given-total kinds lengths even, sym e ∙ not-true r t)
 
-  pub lengths-within : (n : ℕ) → not r ≡ false → n ≡ linePlace (length lengths) + length bodies
-      → (kinds : List ℕ) → length kinds ≡ length lengths → leb n 4096 ≡ lengthsRight (linesGiven kinds lengths) bodies
+  pub lengths-within : (n : ℕ) → not r ≡ false → n ≡ linePlace (length lengths) + length bodies → LengthsJudged lengths bodies (leb n 4096)
   lengths-within n t f kinds even = rw (given-total kinds lengths even, sym e ∙ not-false r t, given-counted kinds lengths even, even, f)
 
 -- ---- the verdict
@@ -130,7 +142,7 @@ module _ (kinds lengths bodies : List ℕ) (size : ℕ) (v : Verdict) (lines : B
   unfolding buildVerdict
   verdict-lines g t = rw (sym e ∙ not-true lines t) g
 
-  module _ (t : not lines ≡ false) (right : Bool) (f : (others : List ℕ) → length others ≡ length lengths → right ≡ lengthsRight (linesGiven others lengths) bodies) where
+  module _ (t : not lines ≡ false) (right : Bool) (f : LengthsJudged lengths bodies right) where
     even : length kinds ≡ length lengths
     even = lines-even kinds lengths lines e t
 
@@ -161,7 +173,8 @@ pub record Buildable (kinds lengths bodies : List ℕ) (size : ℕ) : Type 0 whe
   pub limit : linePlace (length kinds) + length bodies ≤ 4096
   pub room : linePlace (length kinds) + length bodies ≤ size
 
-pub buildable : (kinds lengths bodies : List ℕ) (size : ℕ) (v : Verdict) → v ≡ buildVerdict size (linesGiven kinds lengths) bodies → v ≡ Accepted → Buildable kinds lengths bodies size
+pub buildable : (kinds lengths bodies : List ℕ) (size : ℕ) (v : Verdict) → v ≡ buildVerdict size (linesGiven kinds lengths) bodies → v ≡ Accepted
+    → Buildable kinds lengths bodies size
 buildable kinds lengths bodies size v e f =
     let p = passed size (linesGiven kinds lengths) bodies (sym e ∙ f) in
     let even = given-some kinds lengths (p .some) in

@@ -8,7 +8,7 @@ use borrow.Author.Tests.{eq-eqb, ne-eqb, eqb-true, eqb-false}
 use lib.Dec.{eqb}
 use lib.ListN.{length, drop, getD, length-append, length-map, drop-of-length-le}
 use lib.Seq.{drop-cons}
-use Rattle.laws.specs.Cases.{split, decide}
+use Rattle.laws.specs.Cases.{decide}
 use Rattle.laws.specs.Sums.{total}
 use Rattle.refusals.specs.Refusals.{refusal, refused}
 use Rattle.builder.specs.declared.KindAndLength.{KindAndLength}
@@ -68,9 +68,6 @@ module _ (kinds lengths : List ℕ) where
       (λ t. eqb-true (length kinds) (length lengths) t)
       (λ t. absurd (let none = ap length (given-uneven kinds lengths (eqb-false (length kinds) (length lengths) t)) in omega arith))
 
-  pub given-at-most : length (linesGiven kinds lengths) ≤ length kinds
-  given-at-most = split 1 (length (linesGiven kinds lengths)) (λ h. let e = given-some h in rw (given-paired kinds lengths e) (omega (arith, paired-counted kinds lengths e))) (λ h. omega arith)
-
   module _ (e : length kinds ≡ length lengths) where
     pub given-counted : length (linesGiven kinds lengths) ≡ length kinds
     given-counted = rw (given-paired kinds lengths e) (paired-counted kinds lengths e)
@@ -80,8 +77,10 @@ module _ (kinds lengths : List ℕ) where
 
     pub given-append : (line : KindAndLength) → linesGiven (kinds ++ line .kind ∷ []) (lengths ++ line .length ∷ []) ≡ linesGiven kinds lengths ++ line ∷ []
     given-append line =
-        let longer : length (kinds ++ line .kind ∷ []) ≡ length (lengths ++ line .length ∷ []) = omega (arith, length-append kinds (line .kind ∷ []), length-append lengths (line .length ∷ [])) in
-        rw (given-paired kinds lengths e, given-paired (kinds ++ line .kind ∷ []) (lengths ++ line .length ∷ []) longer) (paired-append kinds lengths line e)
+        let kinds′ = kinds ++ line .kind ∷ [] in
+        let lengths′ = lengths ++ line .length ∷ [] in
+        let longer : length kinds′ ≡ length lengths′ = omega (arith, length-append kinds (line .kind ∷ []), length-append lengths (line .length ∷ [])) in
+        rw (given-paired kinds lengths e, given-paired kinds′ lengths′ longer) (paired-append kinds lengths line e)
 
     pub given-line : (i : ℕ) → getD (linesGiven kinds lengths) i noLine ≡ record { kind = getD kinds i 0; length = getD lengths i 0 }
     given-line i = rw (given-paired kinds lengths e) (paired-line kinds lengths i e)
@@ -112,7 +111,8 @@ module _ (kinds lengths : List ℕ) (e : length kinds ≡ length lengths) where
   lines-first = rw (given-paired kinds lengths e)
 
   module _ (i : ℕ) where
-    pub lines-more : i < length kinds → linesFrom kinds lengths i ≡ record { kind = getD kinds i 0; length = getD lengths i 0 } ∷ linesFrom kinds lengths (i + 1)
+    pub lines-more : i < length kinds
+        → linesFrom kinds lengths i ≡ record { kind = getD kinds i 0; length = getD lengths i 0 } ∷ linesFrom kinds lengths (i + 1)
     unfolding paired
     lines-more h = let k : i < length lengths = omega arith in rw (drop-cons kinds i 0 h, drop-cons lengths i 0 k, add-one i)
 

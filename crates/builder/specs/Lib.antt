@@ -4,5 +4,5 @@ pub mod BuildLaws
 pub mod GivenLaws
 pub mod CheckLaws
 pub mod WriteLaws
-pub mod GatherLaws
+pub mod TableLaws
 pub mod Built

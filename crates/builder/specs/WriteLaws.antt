@@ -37,9 +37,15 @@ stored bytes l place h =
 pub two-stores : (l : List ℕ) (a b : ℕ) → 2 ≤ length l → take 2 (set (set l 0 a) 1 b) ≡ a ∷ b ∷ []
 two-stores l a b h = stored (a ∷ b ∷ []) l 0 h
 
+-- the first four, and the four after them
+abbrev four-set : (l : List ℕ) (place a b c d : ℕ) → List ℕ
+four-set l place a b c d = set (set (set (set l place a) (place + 1) b) (place + 2) c) (place + 3) d
+
+abbrev eight-set : (l : List ℕ) (place a b c d e f g h : ℕ) → List ℕ
+eight-set l place a b c d e f g h = set (set (set (set (four-set l place a b c d) (place + 4) e) (place + 5) f) (place + 6) g) (place + 7) h
+
 pub eight-stores : (l : List ℕ) (place a b c d e f g h : ℕ) → place + 8 ≤ length l
-    → take (place + 8) (set (set (set (set (set (set (set (set l place a) (place + 1) b) (place + 2) c) (place + 3) d) (place + 4) e) (place + 5) f) (place + 6) g) (place + 7) h)
-    ≡ take place l ++ (a ∷ b ∷ c ∷ d ∷ e ∷ f ∷ g ∷ h ∷ [])
+    → take (place + 8) (eight-set l place a b c d e f g h) ≡ take place l ++ (a ∷ b ∷ c ∷ d ∷ e ∷ f ∷ g ∷ h ∷ [])
 eight-stores l place a b c d e f g h fits =
     simp (add-one place, add-suc place 1, add-suc place 2, add-suc place 3, add-suc place 4, add-suc place 5, add-suc place 6)
     (stored (a ∷ b ∷ c ∷ d ∷ e ∷ f ∷ g ∷ h ∷ []) l place fits)
@@ -95,8 +101,8 @@ pub copying-on-end : (place : ℕ) (block first : List ℕ) (from i count : ℕ)
     → CopyingOn place block first from count image
 copying-on-end place block first from i count image c h k = let e : i ≡ count = omega arith in rw (← e) c
 
-pub copied-on : (place : ℕ) (block before first : List ℕ) (from count : ℕ) (image : List ℕ) → Copying place block before from first → CopyingOn place block first from count image
-    → from + count ≤ length block → Copying place block before (from + count) image
+pub copied-on : (place : ℕ) (block before first : List ℕ) (from count : ℕ) (image : List ℕ) → Copying place block before from first
+    → CopyingOn place block first from count image → from + count ≤ length block → Copying place block before (from + count) image
 copied-on place block before first from count image h c k = c .on before h k
 
 -- ---- the contents lines
@@ -109,8 +115,8 @@ pub sum-of-part : (bodies : List ℕ) (start size sum : ℕ) → sum ≡ total (
 sum-of-part bodies start size sum e = let long : start + size - start ≡ size = omega arith in rw long at e
 
 -- the line of the next body, and the lines after it
-contents-more : (kinds lengths bodies : List ℕ) (offset start i sum : ℕ) → length kinds ≡ length lengths → i < length kinds → start + getD lengths i 0 ≤ length bodies
-    → sum ≡ total (take (getD lengths i 0) (drop start bodies)) % 65536
+contents-more : (kinds lengths bodies : List ℕ) (offset start i sum : ℕ) → length kinds ≡ length lengths → i < length kinds
+    → start + getD lengths i 0 ≤ length bodies → sum ≡ total (take (getD lengths i 0) (drop start bodies)) % 65536
     → contentsFrom offset (sectionsOf (linesFrom kinds lengths i) (drop start bodies))
     ≡ contentsLine (getD kinds i 0) offset (getD lengths i 0) sum
     ++ contentsFrom (offset + getD lengths i 0) (sectionsOf (linesFrom kinds lengths (i + 1)) (drop (start + getD lengths i 0) bodies))
@@ -119,6 +125,16 @@ contents-more kinds lengths bodies offset start i sum even h within e =
     let left : getD lengths i 0 ≤ length (drop start bodies) = omega (arith, length-drop start bodies) in
     let long = length-take-le (getD lengths i 0) (drop start bodies) left in
     rw (lines-more kinds lengths even i h, e, long, drop-drop (getD lengths i 0) start bodies)
+
+-- the image of the lines that two lists of numbers give
+abbrev pub imageGiven : (kinds lengths bodies : List ℕ) → List ℕ
+imageGiven kinds lengths bodies = imageOf (sectionsOf (linesGiven kinds lengths) bodies)
+
+-- the contents lines stand after the first two bytes
+abbrev pub ContentsPut : (kinds lengths bodies before after : List ℕ) → Type 0
+ContentsPut kinds lengths bodies before after =
+    let first = linePlace (length kinds) in
+    take first after ≡ take 2 before ++ contentsFrom first (sectionsOf (linesGiven kinds lengths) bodies)
 
 -- i lines are written, and the bodies of those left begin at `start`
 pub record Writing (kinds lengths bodies before : List ℕ) (start i : ℕ) (image : List ℕ) : Type 0 where
@@ -151,22 +167,23 @@ module _ (kinds lengths bodies before : List ℕ) (start i : ℕ) (image : List 
   pub start-fits : (size : ℕ) → Buildable kinds lengths bodies size → i < length kinds → Fits w64 (start + getD lengths i 0)
   start-fits size b h = record { fits = omega (arith, body-within h, b .limit) }
 
-  pub writing-more : (image′ : List ℕ) (sum place first : ℕ) → i < length kinds → sum ≡ total (take (getD lengths i 0) (drop start bodies)) % 65536
-      → place ≡ linePlace i → first ≡ linePlace (length kinds)
-      → take (place + 8) image′ ≡ take place image ++ contentsLine (getD kinds i 0) (first + start) (getD lengths i 0) sum
+  pub writing-more : (image′ : List ℕ) (sum : ℕ) → i < length kinds → sum ≡ total (take (getD lengths i 0) (drop start bodies)) % 65536
+      → take (linePlace i + 8) image′
+      ≡ take (linePlace i) image ++ contentsLine (getD kinds i 0) (linePlace (length kinds) + start) (getD lengths i 0) sum
       → length image′ ≡ length image → Writing kinds lengths bodies before (start + getD lengths i 0) (i + 1) image′
-  writing-more image′ sum place first h e is is-first put kept = record {
+  writing-more image′ sum h e put kept = record {
     even = w .even;
     upto = omega arith;
     rest =
         let next : linePlace (i + 1) ≡ linePlace i + 8 = omega arith in
-        let more = contents-more kinds lengths bodies (linePlace (length kinds) + start) start i sum (w .even) h (body-within h) e in
-        rw (next, rw (is, is-first) at put, ← add-assoc (linePlace (length kinds)) start (getD lengths i 0)) (append-assoc (take (linePlace i) image) _ _ ∙ (rw more at (w .rest)));
+        let first = linePlace (length kinds) in
+        let more = contents-more kinds lengths bodies (first + start) start i sum (w .even) h (body-within h) e in
+        rw (next, put, ← add-assoc first start (getD lengths i 0)) (append-assoc (take (linePlace i) image) _ _ ∙ (rw more at (w .rest)));
     left = omega (arith, left-more h, w .left);
     long = kept ∙ w .long;
   }
 
-  pub writing-end : length kinds ≤ i → take (linePlace (length kinds)) image ≡ take 2 before ++ contentsFrom (linePlace (length kinds)) (sectionsOf (linesGiven kinds lengths) bodies)
+  pub writing-end : length kinds ≤ i → ContentsPut kinds lengths bodies before image
   unfolding contentsFrom sectionsOf
   writing-end h =
       let end : i ≡ length kinds = omega (arith, w .upto) in
@@ -175,28 +192,32 @@ module _ (kinds lengths bodies before : List ℕ) (start i : ℕ) (image : List 
 -- ---- the whole image
 
 -- its three parts after one another: after the first two bytes the buffer is `started`, after the contents `listed`, and after the bodies `image`
-pub image-written : (kinds lengths bodies before started listed image : List ℕ) (place size : ℕ) → Buildable kinds lengths bodies (length before)
+pub image-written : (kinds lengths bodies before started listed image : List ℕ) → Buildable kinds lengths bodies (length before)
     → length started ≡ length before → length listed ≡ length started → length image ≡ length listed
-    → take 2 started ≡ 0x51 ∷ length kinds ∷ []
-    → take (linePlace (length kinds)) listed ≡ take 2 started ++ contentsFrom (linePlace (length kinds)) (sectionsOf (linesGiven kinds lengths) bodies)
-    → place ≡ linePlace (length kinds) → take (place + length bodies) image ≡ take place listed ++ bodies
-    → size ≡ linePlace (length kinds) + length bodies → Begins (result (imageOf (sectionsOf (linesGiven kinds lengths) bodies))) (Length size) image
+    → take 2 started ≡ 0x51 ∷ length kinds ∷ [] → ContentsPut kinds lengths bodies started listed
+    → take (linePlace (length kinds) + length bodies) image ≡ take (linePlace (length kinds)) listed ++ bodies
+    → Begins (result (imageGiven kinds lengths bodies)) (Length (linePlace (length kinds) + length bodies)) image
 unfolding imageOf
-image-written kinds lengths bodies before started listed image place size b k₁ k₂ k₃ e f is g is-size =
+image-written kinds lengths bodies before started listed image b k₁ k₂ k₃ e f g =
     let counted = sections-counted (linesGiven kinds lengths) bodies ∙ given-counted kinds lengths (b .even) in
     let whole = bodies-whole (linesGiven kinds lengths) bodies (given-total kinds lengths (b .even) ∙ b .whole) in
-    let all : take (linePlace (length kinds) + length bodies) image ≡ imageOf (sectionsOf (linesGiven kinds lengths) bodies) = rw (counted, whole) ((rw is at g) ∙ rw (f, e)) in
-    let room : linePlace (length kinds) + length bodies ≤ length image = omega (arith, b .room) in
-    rw is-size (record { answers = ap Length (sym (length-take-le (linePlace (length kinds) + length bodies) image room) ∙ ap length all); begins = all })
+    let size = linePlace (length kinds) + length bodies in
+    let all : take size image ≡ imageGiven kinds lengths bodies = rw (counted, whole) (g ∙ rw (f, e)) in
+    let room : size ≤ length image = omega (arith, b .room) in
+    record { answers = ap Length (sym (length-take-le size image room) ∙ ap length all); begins = all }
 
 -- ---- by the verdict
 
-module _ (kinds lengths bodies : List ℕ) (size : ℕ) (v : Verdict) (e : v ≡ buildVerdict size (linesGiven kinds lengths) bodies) where
-  pub begun-refused : (r : Refusal) (buffer : List ℕ) → v ≡ Refused r → Begins (buildImage size (linesGiven kinds lengths) bodies) (NotFilled r) buffer
-  unfolding buildImage
-  begun-refused r buffer f = rw (sym e ∙ f) (record { answers = refl; begins = refl })
+-- the answer for a buffer that was `before`, and the image at its start where there is one
+abbrev pub BuildBegins : (kinds lengths bodies before : List ℕ) → Filled → (after : List ℕ) → Type 0
+BuildBegins kinds lengths bodies before r after = Begins (buildImage (length before) (linesGiven kinds lengths) bodies) r after
 
-  pub begun-accepted : (a : Filled) (buffer : List ℕ) → v ≡ Accepted → Begins (result (imageOf (sectionsOf (linesGiven kinds lengths) bodies))) a buffer
+module _ (kinds lengths bodies : List ℕ) (size : ℕ) (v : Verdict) (e : v ≡ buildVerdict size (linesGiven kinds lengths) bodies) where
+  pub put-refused : (r : Refusal) (buffer : List ℕ) → v ≡ Refused r → Begins (buildImage size (linesGiven kinds lengths) bodies) (NotFilled r) buffer
+  unfolding buildImage
+  put-refused r buffer f = rw (sym e ∙ f) (record { answers = refl; begins = refl })
+
+  pub put-accepted : (a : Filled) (buffer : List ℕ) → v ≡ Accepted → Begins (result (imageOf (sectionsOf (linesGiven kinds lengths) bodies))) a buffer
       → Begins (buildImage size (linesGiven kinds lengths) bodies) a buffer
   unfolding buildImage
-  begun-accepted a buffer f b = rw (sym e ∙ f) b
+  put-accepted a buffer f b = rw (sym e ∙ f) b

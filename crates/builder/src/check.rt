@@ -1,20 +1,25 @@
+// The builder's checks: refusals 18, 19 and 17, in that order.
 ghost use mathlib.Core.Path.{_≡_};
-ghost use mathlib.Core.List.{List};
-ghost use Prim.Native.Nat.{ℕ, _≤_};
+ghost use Prim.Native.Nat.{_+_, _≤_};
 ghost use lib.Dec.{eqb};
 ghost use lib.ListN.{length};
 ghost use Rattle.laws.specs.Sums.{total};
-ghost use Rattle.refusals.specs.Refusals.{refusal};
-ghost use Rattle.builder.specs.Build.{kindsRise, buildVerdict};
+ghost use Rattle.image.specs.Contents.{linePlace};
+ghost use Rattle.builder.specs.Build.{buildVerdict};
 ghost use Rattle.builder.specs.Lines.{linesGiven};
-ghost use Rattle.builder.specs.BuildLaws.{linesRight, lengthsRight};
-use crate::place;
-use refusals::Refusal;
+ghost use Rattle.builder.specs.BuildLaws.{linesRight};
+ghost use Rattle.builder.specs.CheckLaws.{KindsJudged, LengthsJudged};
+use limits::HEAD_SIZE;
+use limits::HIGHEST_KIND;
+use limits::LARGEST_IMAGE;
+use limits::LINE_SIZE;
+use limits::MOST_LINES;
 use refusals::Verdict;
+use refusals::refused;
 
 // Whether the kinds strictly rise within 1 to 255, whatever their lengths.
 fn kinds_rise(kinds: &[u32]) -> bool
-    ensures { λ r. ⌜ ((lengths : List ℕ) → length (now (kinds .entry)) ≡ length lengths → r ≡ kindsRise 0 (linesGiven (now (kinds .entry)) lengths)) ⌝ }
+    ensures { λ r. ⌜ KindsJudged (now (kinds .entry)) r ⌝ }
 {
     let mut previous: u32 = 0;
     let mut i: usize = 0;
@@ -27,9 +32,10 @@ fn kinds_rise(kinds: &[u32]) -> bool
         i += 1;
     }
     // the last is the highest
-    previous <= 255
+    previous <= HIGHEST_KIND
 }
 
+// Whether 18 is not given.
 fn lines_right(kinds: &[u32], lengths: &[usize]) -> bool
     ensures { λ r. ⌜ r ≡ linesRight (linesGiven (now (kinds .entry)) (now (lengths .entry))) ⌝ }
 {
@@ -39,17 +45,17 @@ fn lines_right(kinds: &[u32], lengths: &[usize]) -> bool
     if kinds.len() < 1 {
         return false;
     }
-    if 16 < kinds.len() {
+    if MOST_LINES < kinds.len() {
         return false;
     }
     kinds_rise(kinds)
 }
 
-// Whether the lengths add up to `whole`. Their sum could wrap, so each is taken off what is left.
-fn lengths_add_up(lengths: &[usize], whole: usize) -> bool
-    ensures { λ r. ⌜ r ≡ eqb (total (now (lengths .entry))) whole ⌝ }
+// Whether the lengths add up to so many bytes. Their sum could wrap, so each is taken off what is left.
+fn lengths_add_up(lengths: &[usize], bytes: usize) -> bool
+    ensures { λ r. ⌜ r ≡ eqb (total (now (lengths .entry))) bytes ⌝ }
 {
-    let mut left = whole;
+    let mut left = bytes;
     let mut i: usize = 0;
     while i < lengths.len() {
         let length = lengths[i];
@@ -62,35 +68,36 @@ fn lengths_add_up(lengths: &[usize], whole: usize) -> bool
     left == 0
 }
 
-// What 19 asks, whatever the kinds.
+fn image_length(count: usize, bodies: &[u8]) -> usize
+    requires { ⌜ count ≤ 16 ⌝ }
+    ensures { λ r. ⌜ r ≡ linePlace count + length (now (bodies .entry)) ⌝ }
+{
+    HEAD_SIZE + LINE_SIZE * count + bodies.len()
+}
+
+// Whether 19 is not given, whatever the kinds.
 fn lengths_right(lengths: &[usize], bodies: &[u8]) -> bool
     requires { ⌜ length (now lengths) ≤ 16 ⌝ }
-    ensures { λ r. ⌜ ((kinds : List ℕ) → length kinds ≡ length (now (lengths .entry)) → r ≡ lengthsRight (linesGiven kinds (now (lengths .entry))) (now (bodies .entry))) ⌝ }
+    ensures { λ r. ⌜ LengthsJudged (now (lengths .entry)) (now (bodies .entry)) r ⌝ }
 {
     if !lengths_add_up(lengths, bodies.len()) {
         return false;
     }
-    place::image_length(lengths.len(), bodies) <= 4096
-}
-
-fn refused(number: u32) -> Verdict
-    ensures { λ r. ⌜ r ≡ Verdict.Refused (refusal number 0) ⌝ }
-{
-    Verdict::Refused(Refusal { number, detail: 0 })
+    image_length(lengths.len(), bodies) <= LARGEST_IMAGE
 }
 
 // For a buffer of `size` bytes.
-pub fn verdict(kinds: &[u32], lengths: &[usize], bodies: &[u8], size: usize) -> Verdict
+pub fn build_verdict(kinds: &[u32], lengths: &[usize], bodies: &[u8], size: usize) -> Verdict
     ensures { λ r. ⌜ r ≡ buildVerdict size (linesGiven (now (kinds .entry)) (now (lengths .entry))) (now (bodies .entry)) ⌝ }
 {
     if !lines_right(kinds, lengths) {
-        return refused(18);
+        return refused(18, 0);
     }
     if !lengths_right(lengths, bodies) {
-        return refused(19);
+        return refused(19, 0);
     }
-    if size < place::image_length(lengths.len(), bodies) {
-        return refused(17);
+    if size < image_length(lengths.len(), bodies) {
+        return refused(17, 0);
     }
     Verdict::Accepted
 }

@@ -1,3 +1,4 @@
+// The image's bytes written into a buffer: the first two, the contents lines, the bodies.
 ghost use mathlib.Core.Path.{_≡_};
 ghost use mathlib.Core.List.{_++_, [], _∷_};
 ghost use Prim.Native.Nat.{_+_, _%_, _≤_};
@@ -5,18 +6,17 @@ ghost use lib.ListN.{length, take, drop};
 ghost use Rattle.laws.specs.Sums.{total};
 ghost use Rattle.refusals.specs.Refusals.{result};
 ghost use Rattle.refusals.specs.RefusalsLaws.{Begins};
-ghost use Rattle.image.specs.Contents.{linePlace};
-ghost use Rattle.image.specs.Sections.{contentsLine, contentsFrom, imageOf};
-ghost use Rattle.builder.specs.Build.{sectionsOf};
-ghost use Rattle.builder.specs.Lines.{linesGiven};
+ghost use Rattle.image.specs.Sections.{contentsLine};
 ghost use Rattle.builder.specs.CheckLaws.{Buildable};
-ghost use Rattle.builder.specs.WriteLaws.{CopyingOn};
-use crate::place;
+ghost use Rattle.builder.specs.WriteLaws.{CopyingOn, ContentsPut, imageGiven};
+use limits::FIRST_BYTE;
+use limits::HEAD_SIZE;
+use limits::LINE_SIZE;
 use numbers::slices;
 use refusals::Filled;
 
 // A contents line from `place` on.
-fn line(image: &mut [u8], place: usize, kind: u8, offset: u16, size: u16, sum: u16)
+fn put_line(image: &mut [u8], place: usize, kind: u8, offset: u16, size: u16, sum: u16)
     requires { ⌜ place + 8 ≤ length (now image) ⌝ }
     ensures { λ _. ⌜ take (place + 8) (now (image .exit)) ≡ take place (now (image .entry)) ++ contentsLine kind offset size sum ⌝ }
 {
@@ -40,19 +40,19 @@ fn body_sum(bodies: &[u8], start: usize, size: usize) -> u16
 }
 
 // The contents lines, after the image's first two bytes.
-fn contents(kinds: &[u32], lengths: &[usize], bodies: &[u8], image: &mut [u8])
+fn put_contents(kinds: &[u32], lengths: &[usize], bodies: &[u8], image: &mut [u8])
     requires { ⌜ Buildable (now kinds) (now lengths) (now bodies) (length (now image)) ⌝ }
-    ensures { λ _. ⌜ take (linePlace (length (now (kinds .entry)))) (now (image .exit)) ≡ take 2 (now (image .entry)) ++ contentsFrom (linePlace (length (now (kinds .entry)))) (sectionsOf (linesGiven (now (kinds .entry)) (now (lengths .entry))) (now (bodies .entry))) ⌝ }
+    ensures { λ _. ⌜ ContentsPut (now (kinds .entry)) (now (lengths .entry)) (now (bodies .entry)) (now (image .entry)) (now (image .exit)) ⌝ }
 {
-    let first = place::line_place(kinds.len());
+    let first = HEAD_SIZE + LINE_SIZE * kinds.len();
     let mut start: usize = 0;
     let mut i: usize = 0;
     while i < kinds.len() {
         let length = lengths[i];
         let sum = body_sum(bodies, start, length);
-        line(
+        put_line(
             image,
-            place::line_place(i),
+            HEAD_SIZE + LINE_SIZE * i,
             kinds[i] as u8,
             (first + start) as u16,
             length as u16,
@@ -75,35 +75,39 @@ fn copy_on(image: &mut [u8], place: usize, bodies: &[u8], from: usize, count: us
     }
 }
 
-// The bodies as one block, from `place` on: 128 bytes at a time, which the compiler moves together.
-fn block(image: &mut [u8], place: usize, bodies: &[u8])
+// How many bytes are copied by one loop of known length, which the compiler vectorises.
+const BLOCK: usize = 128;
+
+// The bodies, from `place` on.
+fn put_bodies(image: &mut [u8], place: usize, bodies: &[u8])
     requires { ⌜ place + length (now bodies) ≤ length (now image) ⌝ }
     ensures { λ _. ⌜ take (place + length (now (bodies .entry))) (now (image .exit)) ≡ take place (now (image .entry)) ++ now (bodies .entry) ⌝ }
 {
     let mut i: usize = 0;
-    while 128 <= bodies.len() - i {
-        copy_on(image, place, bodies, i, 128);
-        i += 128;
+    while BLOCK <= bodies.len() - i {
+        copy_on(image, place, bodies, i, BLOCK);
+        i += BLOCK;
     }
     copy_on(image, place, bodies, i, bodies.len() - i);
 }
 
 // The image's first two bytes.
-fn start(image: &mut [u8], count: u8)
+fn put_start(image: &mut [u8], count: u8)
     requires { ⌜ 2 ≤ length (now image) ⌝ }
     ensures { λ _. ⌜ take 2 (now (image .exit)) ≡ 0x51 ∷ count ∷ [] ⌝ }
 {
-    image[0] = 0x51;
+    image[0] = FIRST_BYTE;
     image[1] = count;
 }
 
 // The image, from the buffer's start.
-pub fn image(kinds: &[u32], lengths: &[usize], bodies: &[u8], image: &mut [u8]) -> Filled
+pub fn put_image(kinds: &[u32], lengths: &[usize], bodies: &[u8], image: &mut [u8]) -> Filled
     requires { ⌜ Buildable (now kinds) (now lengths) (now bodies) (length (now image)) ⌝ }
-    ensures { λ r. ⌜ Begins (result (imageOf (sectionsOf (linesGiven (now (kinds .entry)) (now (lengths .entry))) (now (bodies .entry))))) r (now (image .exit)) ⌝ }
+    ensures { λ r. ⌜ Begins (result (imageGiven (now (kinds .entry)) (now (lengths .entry)) (now (bodies .entry)))) r (now (image .exit)) ⌝ }
 {
-    start(image, kinds.len() as u8);
-    contents(kinds, lengths, bodies, image);
-    block(image, place::line_place(kinds.len()), bodies);
-    Filled::Length(place::image_length(kinds.len(), bodies))
+    put_start(image, kinds.len() as u8);
+    put_contents(kinds, lengths, bodies, image);
+    let first = HEAD_SIZE + LINE_SIZE * kinds.len();
+    put_bodies(image, first, bodies);
+    Filled::Length(first + bodies.len())
 }

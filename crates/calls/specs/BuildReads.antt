@@ -1,4 +1,4 @@
--- `builder::build` takes a slice of structs and is proved by hand, so Rattle makes no `Reads` of its contract. Here it is made as Rattle makes the others'.
+-- The contract of `builder::build` as a `Reads`, which Rattle makes of every function but those over a slice of structs.
 use mathlib.Core.Path.{refl}
 use base.Logic.{emp}
 use contract.Lifetimes.{Lfts}

@@ -17,7 +17,7 @@ use Rattle.refusals.specs.declared.Verdict.the-variants.{Accepted, Refused}
 use Rattle.refusals.specs.Refusals.{refusal, ask}
 use Rattle.refusals.specs.VerdictLaws.{ask-passes, ask-refuses, ask-unpassed, both-asked}
 use Rattle.image.specs.Contents.{lineCount, linePlace, startVerdict, countVerdict, linesVerdict, allLines, contentsVerdict}
-use Rattle.image.specs.ContentsLaws.{Started, start-passes, start-passed, Counted, count-passes, count-passed}
+use Rattle.image.specs.ContentsLaws.{StartRight, start-passes, start-passed, CountRight, count-passes, count-passed}
 use Rattle.contents.specs.declared.ContentsLine.{ContentsLine}
 use Rattle.contents.specs.Lines.{lineAt, fitsAfter}
 
@@ -25,7 +25,7 @@ use Rattle.contents.specs.Lines.{lineAt, fitsAfter}
 
 module _ (size : ℕ) (contents : List ℕ) where
   module _ (r : Verdict) (e : r ≡ Refused (refusal 5 0)) where
-    start-wrong : (Started size contents → ⊥) → r ≡ startVerdict size contents
+    start-wrong : (StartRight size contents → ⊥) → r ≡ startVerdict size contents
     unfolding startVerdict
     start-wrong f =
         let sized = leb 2 size && leb size 4096 in
@@ -34,13 +34,13 @@ module _ (size : ℕ) (contents : List ℕ) where
         e ∙ sym (both ∙ ask-unpassed (sized && marked) 5 0 (λ p. f (start-passed size contents (both ∙ p))))
 
     pub too-short : size < 2 → r ≡ startVerdict size contents
-    too-short h = start-wrong (λ (s : Started size contents). omega arith)
+    too-short h = start-wrong (λ (s : StartRight size contents). omega arith)
 
     pub too-long : 4096 < size → r ≡ startVerdict size contents
-    too-long h = start-wrong (λ (s : Started size contents). omega arith)
+    too-long h = start-wrong (λ (s : StartRight size contents). omega arith)
 
     pub unmarked : (first : ℕ) → first ≡ numberAt 1 contents 0 → (first ≡ 0x51 → ⊥) → r ≡ startVerdict size contents
-    unmarked first f n = start-wrong (λ (s : Started size contents). n (f ∙ s .marked))
+    unmarked first f n = start-wrong (λ (s : StartRight size contents). n (f ∙ s .marked))
 
   pub start-right : (first : ℕ) → 2 ≤ size → size ≤ 4096 → first ≡ numberAt 1 contents 0 → first ≡ 0x51 → Accepted ≡ startVerdict size contents
   start-right first h k f m = sym (start-passes size contents (record { enough = h; most = k; marked = sym f ∙ m }))
@@ -53,22 +53,22 @@ few-lines contents count b c = rw c (number-small 1 contents 1 b)
 
 module _ (size : ℕ) (contents : List ℕ) (count : ℕ) (c : count ≡ lineCount contents) where
   module _ (r : Verdict) (e : r ≡ Refused (refusal 6 0)) where
-    count-wrong : (Counted size contents → ⊥) → r ≡ countVerdict size contents
+    count-wrong : (CountRight size contents → ⊥) → r ≡ countVerdict size contents
     unfolding countVerdict
     count-wrong f =
         let limits = leb 1 (lineCount contents) && leb (lineCount contents) 16 in
         e ∙ sym (ask-unpassed (limits && leb (linePlace (lineCount contents)) size) 6 0 (λ p. f (count-passed size contents p)))
 
     pub no-line : count < 1 → r ≡ countVerdict size contents
-    no-line h = count-wrong (λ (s : Counted size contents). omega arith)
+    no-line h = count-wrong (λ (s : CountRight size contents). omega arith)
 
     pub too-many : 16 < count → r ≡ countVerdict size contents
-    too-many h = count-wrong (λ (s : Counted size contents). omega arith)
+    too-many h = count-wrong (λ (s : CountRight size contents). omega arith)
 
-    pub no-room : size < 2 + 8 * count → r ≡ countVerdict size contents
-    no-room h = count-wrong (λ (s : Counted size contents). omega arith)
+    pub no-room : size < linePlace count → r ≡ countVerdict size contents
+    no-room h = count-wrong (λ (s : CountRight size contents). omega arith)
 
-  pub count-right : 1 ≤ count → count ≤ 16 → 2 + 8 * count ≤ size → Accepted ≡ countVerdict size contents
+  pub count-right : 1 ≤ count → count ≤ 16 → linePlace count ≤ size → Accepted ≡ countVerdict size contents
   count-right h k room = sym (count-passes size contents (record { some = omega arith; few = omega arith; room = omega arith }))
 
 -- ---- 7
@@ -83,24 +83,24 @@ module _ (line : ContentsLine) (previous offset : ℕ) where
   pub offset-decides : previous < line .kind → line .zero ≡ 0 → eqb (line .offset) offset ≡ fitsAfter line previous offset
   offset-decides h z = rw (lt-ltb previous (line .kind) h, eq-eqb (line .zero) 0 z)
 
--- i lines are right: what is left to judge
-pub record Judging (size : ℕ) (contents : List ℕ) (count i previous offset : ℕ) : Type 0 where
+-- the first i lines are right, so those left decide
+pub record LinesRightBefore (size : ℕ) (contents : List ℕ) (count i previous offset : ℕ) : Type 0 where
   pub rest : linesVerdict size contents (count - i) i previous offset ≡ allLines size contents
   pub few : count < 256
   pub passed : i ≤ count
-  pub near : offset ≤ 2 + 8 * count + 65535 * i
+  pub near : offset ≤ linePlace count + 65535 * i
 
 module _ (size : ℕ) (contents : List ℕ) (count : ℕ) where
-  pub judging-first : Bytes contents → count ≡ lineCount contents → Judging size contents count 0 0 (2 + 8 * count)
-  judging-first b c = record { rest = rw (sub-zero count, c); few = few-lines contents count b c; passed = omega arith; near = omega arith }
+  pub lines-first : Bytes contents → count ≡ lineCount contents → LinesRightBefore size contents count 0 0 (linePlace count)
+  lines-first b c = record { rest = rw (sub-zero count, c); few = few-lines contents count b c; passed = omega arith; near = omega arith }
 
-  module _ (i previous offset : ℕ) (j : Judging size contents count i previous offset) where
+  module _ (i previous offset : ℕ) (j : LinesRightBefore size contents count i previous offset) where
     module _ (line : ContentsLine) (l : line ≡ lineAt contents i) (right : Bool) (t : right ≡ fitsAfter line previous offset) (more : i < count) where
       pub lines-stop : not right ≡ true → (r : Verdict) → r ≡ Refused (refusal 7 i) → r ≡ allLines size contents
       unfolding linesVerdict
       lines-stop f r e = let wrong = sym (rw l at t) ∙ not-true right f in e ∙ rw (one-left count i more, wrong) at (j .rest)
 
-      pub lines-more : not right ≡ false → line .length < 65536 → Judging size contents count (i + 1) (line .kind) (offset + line .length)
+      pub lines-more : not right ≡ false → line .length < 65536 → LinesRightBefore size contents count (i + 1) (line .kind) (offset + line .length)
       unfolding linesVerdict
       lines-more f small =
           let good = sym (rw l at t) ∙ not-false right f in

@@ -1,3 +1,4 @@
+// The three checks of contents, refusals 5 to 7, each by itself.
 ghost use mathlib.Core.Bool.{_&&_};
 ghost use mathlib.Core.Path.{_≡_};
 ghost use Prim.Native.Nat.{_<_};
@@ -8,54 +9,59 @@ use crate::ContentsLine;
 use crate::line_at;
 use crate::line_count;
 use crate::line_in;
+use limits::FIRST_BYTE;
+use limits::HEAD_SIZE;
+use limits::LARGEST_IMAGE;
+use limits::LINE_SIZE;
+use limits::MOST_LINES;
 use numbers::fields;
 use refusals::Verdict;
 use refusals::refused;
 
 // Refusal 5.
-pub fn start(contents: &[u8], size: usize) -> Verdict
+pub fn start_verdict(contents: &[u8], size: usize) -> Verdict
     ensures { λ r. ⌜ r ≡ startVerdict size (now (contents .entry)) ⌝ }
 {
-    if size < 2 {
+    if size < HEAD_SIZE {
         return refused(5, 0);
     }
-    if 4096 < size {
+    if LARGEST_IMAGE < size {
         return refused(5, 0);
     }
-    if fields::number1(contents, 0) != 0x51 {
+    if fields::number1(contents, 0) != FIRST_BYTE {
         return refused(5, 0);
     }
     Verdict::Accepted
 }
 
 // Refusal 6.
-pub fn count(contents: &[u8], size: usize) -> Verdict
+pub fn count_verdict(contents: &[u8], size: usize) -> Verdict
     ensures { λ r. ⌜ r ≡ countVerdict size (now (contents .entry)) ⌝ }
 {
     let count = line_count(contents);
     if count < 1 {
         return refused(6, 0);
     }
-    if 16 < count {
+    if MOST_LINES < count {
         return refused(6, 0);
     }
-    if size < 2 + 8 * count {
+    if size < HEAD_SIZE + LINE_SIZE * count {
         return refused(6, 0);
     }
     Verdict::Accepted
 }
 
-// Where all `count` lines are there, which is the same question for each of them, a line is read with no bounds check. The rest goes
-// by `line_at`, which has callers in other crates too, so that the compiler inlines it nowhere.
+// The bounds check is for all `count` lines at once: it is loop-invariant, and the compiler hoists it. `line_at`, which has a bounds check
+// for each line, has callers in other crates, so that the compiler does not inline it.
 fn line_of(contents: &[u8], line: usize, count: usize) -> ContentsLine
     requires { ⌜ (line < count) × (count < 256) ⌝ }
     ensures { λ r. ⌜ r ≡ lineAt (now (contents .entry)) line ⌝ }
 {
-    if contents.len() < 2 + 8 * count {
+    if contents.len() < HEAD_SIZE + LINE_SIZE * count {
         return line_at(contents, line);
     }
-    let place = 2 + 8 * line;
-    line_in(&contents[place..place + 8])
+    let place = HEAD_SIZE + LINE_SIZE * line;
+    line_in(&contents[place..place + LINE_SIZE])
 }
 
 fn line_right(line: ContentsLine, previous: u8, offset: usize) -> bool
@@ -71,13 +77,13 @@ fn line_right(line: ContentsLine, previous: u8, offset: usize) -> bool
 }
 
 // Refusal 7.
-pub fn lines(contents: &[u8], size: usize) -> Verdict
+pub fn lines_verdict(contents: &[u8], size: usize) -> Verdict
     ensures { λ r. ⌜ r ≡ allLines size (now (contents .entry)) ⌝ }
 {
     let count = line_count(contents);
     let mut i: usize = 0;
     let mut previous: u8 = 0;
-    let mut offset = 2 + 8 * count;
+    let mut offset = HEAD_SIZE + LINE_SIZE * count;
     while i < count {
         let line = line_of(contents, i, count);
         if !line_right(line, previous, offset) {

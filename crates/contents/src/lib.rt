@@ -1,8 +1,10 @@
-// The contents of an image: what a line says, and refusals 5 to 7. Every function answers for every slice.
+// The contents of an image: what a line says, and refusals 5 to 7; every function answers for every slice.
 ghost use mathlib.Core.Path.{_≡_};
 ghost use Rattle.numbers.specs.Fields.{numberAt};
 ghost use Rattle.image.specs.Contents.{lineCount, contentsVerdict};
 ghost use Rattle.contents.specs.Lines.{lineIn, lineAt};
+use limits::HEAD_SIZE;
+use limits::LINE_SIZE;
 use numbers::fields;
 use numbers::slices;
 use refusals::Verdict;
@@ -25,12 +27,11 @@ pub fn line_count(image: &[u8]) -> usize
     fields::number1(image, 1) as usize
 }
 
-// A line's bytes as one number, so that one bounds check serves all its fields. Not by `number8`, which called from here too
-// would no longer be inlined anywhere.
+// A line's bytes as one number: one bounds check for all fields. Not by `number8`, which with one caller more would be inlined nowhere.
 fn eight_bytes(bytes: &[u8]) -> u64
     ensures { λ r. ⌜ r ≡ numberAt 8 (now (bytes .entry)) 0 ⌝ }
 {
-    if bytes.len() < 8 {
+    if bytes.len() < LINE_SIZE {
         let low = fields::number4(bytes, 0) as u64;
         let high = fields::number4(bytes, 4) as u64;
         return low + 4294967296 * high;
@@ -47,7 +48,7 @@ fn eight_bytes(bytes: &[u8]) -> u64
     ])
 }
 
-// The line that these bytes begin with; bytes past the end are 0. Whoever lends eight bytes pays for no bounds check.
+// The line that these bytes begin with; bytes past the end are 0. Of a slice whose length is known to be 8 the compiler drops the bounds check.
 pub fn line_in(bytes: &[u8]) -> ContentsLine
     ensures { λ r. ⌜ r ≡ lineIn (now (bytes .entry)) ⌝ }
 {
@@ -61,27 +62,30 @@ pub fn line_in(bytes: &[u8]) -> ContentsLine
     }
 }
 
-// Bytes past the end are 0. Past 2^60 lines a place has no room in 64 bits, and no slice goes so far.
+// From line 2^60 on a line's place would wrap, and no slice is so long.
+const FIRST_FAR_LINE: usize = 1152921504606846976;
+
+// Bytes past the end are 0.
 pub fn line_at(image: &[u8], line: usize) -> ContentsLine
     ensures { λ r. ⌜ r ≡ lineAt (now (image .entry)) line ⌝ }
 {
-    if 1152921504606846976 <= line {
+    if FIRST_FAR_LINE <= line {
         return line_in(slices::part(image, 0, 0));
     }
-    line_in(slices::part(image, 2 + 8 * line, 8))
+    line_in(slices::part(image, HEAD_SIZE + LINE_SIZE * line, LINE_SIZE))
 }
 
-// Refusals 5 to 7 of an image of this size, by its contents alone: the bodies need not be there.
+// Refusals 5 to 7 of an image of `size` bytes, by its contents alone: the bodies need not be there.
 pub fn contents_verdict(contents: &[u8], size: usize) -> Verdict
     ensures { λ r. ⌜ r ≡ contentsVerdict size (now (contents .entry)) ⌝ }
 {
-    let start = checks::start(contents, size);
+    let start = checks::start_verdict(contents, size);
     let Verdict::Accepted = start else {
         return start;
     };
-    let count = checks::count(contents, size);
+    let count = checks::count_verdict(contents, size);
     let Verdict::Accepted = count else {
         return count;
     };
-    checks::lines(contents, size)
+    checks::lines_verdict(contents, size)
 }

@@ -58,39 +58,43 @@ inside-stated image zero i kind h = tt
 inside-stated image (suc left) i kind h =
     decide (eqb kind (kindAt image i))
     (λ e. rw e (rw (add-zero i) at (h 0 (omega arith))))
-    (λ e. rw e (inside-stated image left (i + 1) kind (λ (k : ℕ) (l : k < left). let same : i + suc k ≡ i + 1 + k = omega arith in rw same at (h (suc k) (omega arith)))))
+    (λ e.
+    let later : (k : ℕ) → k < left → offsetAt image (i + 1 + k) + lengthAt image (i + 1 + k) ≤ length image =
+    λ k l. let same : i + suc k ≡ i + 1 + k = omega arith in rw same at (h (suc k) (omega arith)) in
+    rw e (inside-stated image left (i + 1) kind later))
 
 -- ---- what is found, by its place
 
-pub record Places (image : List ℕ) (kind : ℕ) (place : Place) : Type 0 where
+-- what is found under a kind stands at this place
+pub record IsPlace (image : List ℕ) (kind : ℕ) (place : Place) : Type 0 where
   pub body-is : found image kind ≡ bodySaid image place
   pub offset-is : foundOffset image kind ≡ offsetSaid place
   pub inside : Inside image place
 
 module _ (image : List ℕ) (kind : ℕ) where
   -- in a good layout, what the lines say
-  pub stated-places : layoutVerdict image ≡ Accepted → Places image kind (statedPlace image kind)
-  stated-places e =
+  pub stated-is-place : layoutVerdict image ≡ Accepted → IsPlace image kind (statedPlace image kind)
+  stated-is-place e =
       record {
         body-is = found-good image kind e ∙ body-said image kind;
         offset-is = offset-good image kind e ∙ offset-stated image (lineCount image) 0 kind;
         inside = inside-stated image (lineCount image) 0 kind (λ (k : ℕ) (h : k < lineCount image). rw (zero-add k) (body-within image e k h));
       }
 
-  pub ill-places : (q : Refusal) → layoutVerdict image ≡ Refused q → Places image kind Nowhere
+  pub ill-is-nowhere : (q : Refusal) → layoutVerdict image ≡ Refused q → IsPlace image kind Nowhere
   unfolding found foundOffset
-  ill-places q e = record { body-is = rw e; offset-is = rw e; inside = tt }
+  ill-is-nowhere q e = record { body-is = rw e; offset-is = rw e; inside = tt }
 
   -- and no other
-  pub only-place : (place : Place) → Places image kind place → place ≡ placed (foundOffset image kind) (found image kind)
+  pub only-place : (place : Place) → IsPlace image kind place → place ≡ placed (foundOffset image kind) (found image kind)
   only-place (At offset size) p =
       let long = length-take-le size (drop offset image) (omega (arith, p .inside, length-drop offset image)) in
       rw (p .offset-is, p .body-is, long)
   only-place Nowhere p = rw (p .offset-is)
 
-  pub found-places : (place : Place) → place ≡ placed (foundOffset image kind) (found image kind) → Places image kind place
-  found-places place p = go (layoutVerdict image) refl
+  pub found-is-place : (place : Place) → place ≡ placed (foundOffset image kind) (found image kind) → IsPlace image kind place
+  found-is-place place p = go (layoutVerdict image) refl
     where
-      go : (v : Verdict) → layoutVerdict image ≡ v → Places image kind place
-      go Accepted e = rw (p, ← only-place (statedPlace image kind) (stated-places e)) (stated-places e)
-      go (Refused q) e = rw (p, ← only-place Nowhere (ill-places q e)) (ill-places q e)
+      go : (v : Verdict) → layoutVerdict image ≡ v → IsPlace image kind place
+      go Accepted e = rw (p, ← only-place (statedPlace image kind) (stated-is-place e)) (stated-is-place e)
+      go (Refused q) e = rw (p, ← only-place Nowhere (ill-is-nowhere q e)) (ill-is-nowhere q e)

@@ -18,8 +18,7 @@ pub enum Place {
     Nowhere,
 }
 
-// What the first contents line of a kind says, whatever the layout: whoever has judged an image looks for each kind here, and
-// judges it once.
+// By what the contents lines state; the layout is not judged. For callers that have judged it, and look for several kinds.
 pub fn stated(image: &[u8], kind: u32) -> Place
     ensures { λ r. ⌜ r ≡ statedPlace (now (image .entry)) kind ⌝ }
 {
@@ -35,7 +34,7 @@ pub fn stated(image: &[u8], kind: u32) -> Place
     Place::Nowhere
 }
 
-// The part of the image at a place; where there is none, the empty part at the image's start.
+// The part of the image at a place; the empty part at the image's start for no place. The layout is not judged: a part ends with the image.
 pub fn part_at(image: &[u8], place: Place) -> &[u8]
     ensures { λ r. ⌜ IsPart (image .entry) r (startOf place) (lengthOf place) ⌝ }
 {
@@ -45,7 +44,7 @@ pub fn part_at(image: &[u8], place: Place) -> &[u8]
     }
 }
 
-// Nowhere in an ill-laid image.
+// The layout is judged first: nowhere in an ill-laid image.
 pub fn place_of(image: &[u8], kind: u32) -> Place
     ensures { λ r. ⌜ r ≡ placed (foundOffset (now (image .entry)) kind) (found (now (image .entry)) kind) ⌝ }
 {

@@ -1,9 +1,10 @@
--- The contents of an image: how many lines they have, what each says, and refusals 5 to 7. These need the image's size and its
--- contents, and no body: `contents` may be the image itself or any part of it from its start on.
+-- The contents of an image: how many lines they have, what each says, and refusals 5 to 7.
+-- They need the image's size and its contents, and no body: `contents` may be the image itself or any part of it from its start on.
 use mathlib.Core.Bool.{Bool, _&&_}
 use mathlib.Core.List.{List}
 use Prim.Native.Nat.{ℕ, zero, suc, _+_, _*_}
 use lib.Dec.{leb, ltb, eqb}
+use Rattle.limits.specs.Limits.{largestImage, mostLines}
 use Rattle.numbers.specs.Fields.{numberAt}
 use Rattle.refusals.specs.declared.Verdict.{Verdict}
 use Rattle.refusals.specs.Refusals.{ask, andThen}
@@ -33,7 +34,7 @@ sumAt image i = numberAt 2 image (linePlace i + 6)
 
 -- 5: from 2 to 4,096 bytes,
 abbrev pub sizeVerdict : (size : ℕ) → Verdict
-sizeVerdict size = ask (leb 2 size && leb size 4096) 5 0
+sizeVerdict size = ask (leb 2 size && leb size largestImage) 5 0
 
 -- of which the first is 0x51
 abbrev pub markVerdict : (contents : List ℕ) → Verdict
@@ -44,7 +45,7 @@ startVerdict size contents = andThen (sizeVerdict size) (markVerdict contents)
 
 -- 6: from 1 to 16 contents lines, which the image has room for
 unfoldable pub countVerdict : (size : ℕ) → (contents : List ℕ) → Verdict
-countVerdict size contents = ask (leb 1 (lineCount contents) && leb (lineCount contents) 16 && leb (linePlace (lineCount contents)) size) 6 0
+countVerdict size contents = ask (leb 1 (lineCount contents) && leb (lineCount contents) mostLines && leb (linePlace (lineCount contents)) size) 6 0
 
 -- line i is right after a line of kind `previous`, where its body is to start at `offset`
 abbrev pub lineRight : (contents : List ℕ) → (i previous offset : ℕ) → Bool

@@ -1,4 +1,4 @@
--- What each check of contents says: from the facts to its verdict, and back. Bodies stand inside the image, and nothing but the contents' own bytes is looked at.
+-- What each check of contents says: from the facts to its verdict, and back; where the bodies stand; that only the contents' own bytes count.
 use mathlib.Core.Bool.{Bool, true, _&&_}
 use mathlib.Core.List.{List}
 use mathlib.Core.Path.{_≡_, refl, sym, _∙_}
@@ -8,6 +8,7 @@ use native.Mathlib.Omega.{arith}
 use borrow.Author.Tests.{le-leb, lt-ltb, eq-eqb, leb-true, ltb-true, eqb-true}
 use lib.Dec.{leb, ltb, eqb}
 use lib.ListN.{take}
+use Rattle.limits.specs.Limits.{largestImage, mostLines}
 use Rattle.laws.specs.Cases.{both-left, both-right}
 use Rattle.numbers.specs.Fields.{numberAt}
 use Rattle.numbers.specs.FieldsLaws.{number-within}
@@ -22,59 +23,64 @@ use Rattle.image.specs.Contents.{lineCount, linePlace, kindAt, zeroAt, o
 each : (a b c : Bool) → (a && b && c) ≡ true → (a ≡ true) × (b ≡ true) × (c ≡ true)
 each a b c e = let two = both-left (a && b) c e in (both-left a b two, both-right a b two, both-right (a && b) c e)
 
-pub record Started (size : ℕ) (contents : List ℕ) : Type 0 where
+-- 5 is not given
+pub record StartRight (size : ℕ) (contents : List ℕ) : Type 0 where
   pub enough : 2 ≤ size
-  pub most : size ≤ 4096
+  pub most : size ≤ largestImage
   pub marked : numberAt 1 contents 0 ≡ 0x51
 
-pub record Counted (size : ℕ) (contents : List ℕ) : Type 0 where
+-- 6 is not given
+pub record CountRight (size : ℕ) (contents : List ℕ) : Type 0 where
   pub some : 1 ≤ lineCount contents
-  pub few : lineCount contents ≤ 16
+  pub few : lineCount contents ≤ mostLines
   pub room : linePlace (lineCount contents) ≤ size
 
 module _ (size : ℕ) (contents : List ℕ) where
-  pub start-passes : Started size contents → startVerdict size contents ≡ Accepted
+  pub start-passes : StartRight size contents → startVerdict size contents ≡ Accepted
   unfolding startVerdict
-  start-passes s = rw (le-leb 2 size (s .enough), le-leb size 4096 (s .most), eq-eqb (numberAt 1 contents 0) 0x51 (s .marked))
+  start-passes s = rw (le-leb 2 size (s .enough), le-leb size largestImage (s .most), eq-eqb (numberAt 1 contents 0) 0x51 (s .marked))
 
-  pub start-passed : startVerdict size contents ≡ Accepted → Started size contents
+  pub start-passed : startVerdict size contents ≡ Accepted → StartRight size contents
   unfolding startVerdict
   start-passed e =
       let sized = asked _ 5 0 (first-passed (sizeVerdict size) (markVerdict contents) e) in
       let marked = asked _ 5 0 (next-passed (sizeVerdict size) (markVerdict contents) e) in
       record {
-        enough = leb-true 2 size (both-left (leb 2 size) (leb size 4096) sized);
-        most = leb-true size 4096 (both-right (leb 2 size) (leb size 4096) sized);
+        enough = leb-true 2 size (both-left (leb 2 size) (leb size largestImage) sized);
+        most = leb-true size largestImage (both-right (leb 2 size) (leb size largestImage) sized);
         marked = eqb-true (numberAt 1 contents 0) 0x51 marked;
       }
 
-  pub count-passes : Counted size contents → countVerdict size contents ≡ Accepted
+  pub count-passes : CountRight size contents → countVerdict size contents ≡ Accepted
   unfolding countVerdict
-  count-passes s = rw (le-leb 1 (lineCount contents) (s .some), le-leb (lineCount contents) 16 (s .few), le-leb (linePlace (lineCount contents)) size (s .room))
+  count-passes s =
+      let n = lineCount contents in
+      rw (le-leb 1 n (s .some), le-leb n mostLines (s .few), le-leb (linePlace n) size (s .room))
 
-  pub count-passed : countVerdict size contents ≡ Accepted → Counted size contents
+  pub count-passed : countVerdict size contents ≡ Accepted → CountRight size contents
   unfolding countVerdict
   count-passed e =
-      let t = each (leb 1 (lineCount contents)) (leb (lineCount contents) 16) (leb (linePlace (lineCount contents)) size) (asked _ 6 0 e) in
+      let t = each (leb 1 (lineCount contents)) (leb (lineCount contents) mostLines) (leb (linePlace (lineCount contents)) size) (asked _ 6 0 e) in
       record {
         some = leb-true 1 (lineCount contents) (t .0);
-        few = leb-true (lineCount contents) 16 (t .1);
+        few = leb-true (lineCount contents) mostLines (t .1);
         room = leb-true (linePlace (lineCount contents)) size (t .2);
       }
 
 -- ---- a line
 
-pub record Right (contents : List ℕ) (i previous offset : ℕ) : Type 0 where
+-- line i is right after a line of kind `previous`, where its body is to start at `offset`
+pub record LineRight (contents : List ℕ) (i previous offset : ℕ) : Type 0 where
   pub rises : previous < kindAt contents i
   pub zero-is : zeroAt contents i ≡ 0
   pub starts : offsetAt contents i ≡ offset
 
 module _ (contents : List ℕ) (i previous offset : ℕ) where
-  pub right-passes : Right contents i previous offset → lineRight contents i previous offset ≡ true
+  pub right-passes : LineRight contents i previous offset → lineRight contents i previous offset ≡ true
   right-passes r =
       rw (lt-ltb previous (kindAt contents i) (r .rises), eq-eqb (zeroAt contents i) 0 (r .zero-is), eq-eqb (offsetAt contents i) offset (r .starts))
 
-  pub passed-right : lineRight contents i previous offset ≡ true → Right contents i previous offset
+  pub passed-right : lineRight contents i previous offset ≡ true → LineRight contents i previous offset
   passed-right e =
       let t = each (ltb previous (kindAt contents i)) (eqb (zeroAt contents i) 0) (eqb (offsetAt contents i) offset) e in
       record {
@@ -83,14 +89,14 @@ module _ (contents : List ℕ) (i previous offset : ℕ) where
         starts = eqb-true (offsetAt contents i) offset (t .2);
       }
 
--- the first of the lines left is right, and the others pass
-pub record LinePassed (size : ℕ) (contents : List ℕ) (left i previous offset : ℕ) : Type 0 where
-  pub right : Right contents i previous offset
+-- the first of the lines left, line i, is right, and the others pass
+pub record FirstLineRight (size : ℕ) (contents : List ℕ) (left i previous offset : ℕ) : Type 0 where
+  pub right : LineRight contents i previous offset
   pub others : linesVerdict size contents left (i + 1) (kindAt contents i) (offset + lengthAt contents i) ≡ Accepted
 
 module _ (size : ℕ) (contents : List ℕ) where
   pub line-passed : (left i previous offset : ℕ) → linesVerdict size contents (suc left) i previous offset ≡ Accepted
-      → LinePassed size contents left i previous offset
+      → FirstLineRight size contents left i previous offset
   unfolding linesVerdict
   line-passed left i previous offset e =
       record {
@@ -104,9 +110,10 @@ module _ (size : ℕ) (contents : List ℕ) where
 
 -- ---- all contents
 
+-- none of 5 to 7 is given
 pub record ContentsGood (size : ℕ) (contents : List ℕ) : Type 0 where
-  pub started : Started size contents
-  pub counted : Counted size contents
+  pub started : StartRight size contents
+  pub counted : CountRight size contents
   pub lines : allLines size contents ≡ Accepted
 
 module _ (size : ℕ) (contents : List ℕ) where

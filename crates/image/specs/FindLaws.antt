@@ -7,7 +7,7 @@ use Rattle.image.specs.Contents.{lineCount}
 use Rattle.image.specs.Layout.{layoutVerdict}
 use Rattle.image.specs.Sections.{Section, sections, imageOf, Fit}
 use Rattle.image.specs.Find.{bodyOf, found, offsetFrom, foundOffset}
-use Rattle.image.specs.RoundTrip.{image-good, sections-of-image}
+use Rattle.image.specs.SectionsRoundTrip.{image-good, sections-of-image}
 
 -- in an image with a good layout, what its sections hold
 pub found-good : (image : List ℕ) (kind : ℕ) → layoutVerdict image ≡ Accepted → found image kind ≡ bodyOf kind (sections image)

@@ -1,4 +1,4 @@
--- The layout of an image: contents, then bodies. Refusals 5 to 8, each finished for the whole image before the next.
+-- The layout of an image, contents and then bodies: refusals 5 to 8, each finished for the whole image before the next.
 use mathlib.Core.List.{List}
 use Prim.Native.Nat.{ℕ, zero, suc, _+_, _%_}
 use lib.Dec.{eqb}

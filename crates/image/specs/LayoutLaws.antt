@@ -16,11 +16,12 @@ use Rattle.image.specs.ContentsLaws.{ContentsGood, contents-pass, conten
 
 -- ---- the sums
 
-pub record SumPassed (image : List ℕ) (left i : ℕ) : Type 0 where
+-- the first of the lines left, line i, states the right sum, and the others pass
+pub record FirstSumRight (image : List ℕ) (left i : ℕ) : Type 0 where
   pub right : total (bodyAt image i) % 65536 ≡ sumAt image i
   pub others : sumsVerdict image left (i + 1) ≡ Accepted
 
-pub sum-passed : (image : List ℕ) (left i : ℕ) → sumsVerdict image (suc left) i ≡ Accepted → SumPassed image left i
+pub sum-passed : (image : List ℕ) (left i : ℕ) → sumsVerdict image (suc left) i ≡ Accepted → FirstSumRight image left i
 unfolding sumsVerdict
 sum-passed image left i e =
     let sum = total (bodyAt image i) % 65536 in
@@ -31,16 +32,17 @@ sum-passed image left i e =
 
 -- ---- the whole layout
 
-pub record Good (image : List ℕ) : Type 0 where
+-- none of 5 to 8 is given
+pub record LayoutGood (image : List ℕ) : Type 0 where
   pub contents : ContentsGood (length image) image
   pub sums : allSums image ≡ Accepted
 
 module _ (image : List ℕ) where
-  pub layout-passes : Good image → layoutVerdict image ≡ Accepted
+  pub layout-passes : LayoutGood image → layoutVerdict image ≡ Accepted
   unfolding layoutVerdict
   layout-passes g = rw (contents-pass (length image) image (g .contents), g .sums)
 
-  pub layout-passed : layoutVerdict image ≡ Accepted → Good image
+  pub layout-passed : layoutVerdict image ≡ Accepted → LayoutGood image
   unfolding layoutVerdict
   layout-passed e =
       record {

@@ -6,8 +6,8 @@ pub mod Merged
 pub mod LineLaws
 pub mod ContentsLaws
 pub mod LayoutLaws
-pub mod RoundTrip
-pub mod ImageFromSections
+pub mod SectionsRoundTrip
+pub mod ImageRoundTrip
 pub mod FindLaws
 pub mod OrderLaws
 pub mod MergedLaws

@@ -13,8 +13,8 @@ use Rattle.image.specs.Sections.{twoBytes, contentsLine}
 
 -- ---- the fields of the bytes
 
--- line i says this of a body
-pub record Says (image : List ℕ) (i kind offset size sum : ℕ) : Type 0 where
+-- what the fields of line i are
+pub record LineSays (image : List ℕ) (i kind offset size sum : ℕ) : Type 0 where
   pub kind-is : kindAt image i ≡ kind
   pub zero-is : zeroAt image i ≡ 0
   pub offset-is : offsetAt image i ≡ offset
@@ -26,7 +26,7 @@ field : {q : List ℕ} (w : ℕ) (image : List ℕ) (i place : ℕ) → drop (li
 field w image i place e = sym (number-from w image (linePlace i) place) ∙ ap (λ (l : List ℕ). numberAt w l place) e
 
 pub line-says : (image rest : List ℕ) (i kind offset size sum : ℕ) → drop (linePlace i) image ≡ contentsLine kind offset size sum ++ rest
-    → Says image i kind offset size sum
+    → LineSays image i kind offset size sum
 unfolding numberAt littleEndian
 line-says image rest i kind offset size sum e =
     record {

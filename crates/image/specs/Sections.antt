@@ -2,6 +2,7 @@
 use mathlib.Core.List.{List, [], _∷_, _++_}
 use Prim.Native.Nat.{ℕ, zero, suc, _+_, _/_, _%_, _≤_, _<_}
 use lib.ListN.{length}
+use Rattle.limits.specs.Limits.{largestImage, mostLines}
 use Rattle.laws.specs.Sums.{total}
 use Rattle.image.specs.Contents.{lineCount, linePlace, kindAt}
 use Rattle.image.specs.Layout.{bodyAt}
@@ -50,6 +51,6 @@ Rising previous (s ∷ ss) = (previous < s .kind) × (s .kind ≤ 255) × Rising
 -- sections that an image can hold: 1 to 16, of rising kinds, and no more than 4,096 bytes with their contents
 pub record Fit (ss : List Section) : Type 0 where
   pub some : 1 ≤ length ss
-  pub few : length ss ≤ 16
+  pub few : length ss ≤ mostLines
   pub rising : Rising 0 ss
-  pub room : linePlace (length ss) + length (bodiesOf ss) ≤ 4096
+  pub room : linePlace (length ss) + length (bodiesOf ss) ≤ largestImage

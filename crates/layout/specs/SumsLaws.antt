@@ -1,7 +1,7 @@
 -- One law for each way out of the check of sums and of the whole layout.
 use mathlib.Core.List.{List}
 use mathlib.Core.Path.{_≡_, sym, _∙_}
-use Prim.Native.Nat.{ℕ, _+_, _-_, _*_, _%_, _≤_, _<_}
+use Prim.Native.Nat.{ℕ, _+_, _-_, _%_, _≤_, _<_}
 use native.Mathlib.Nat.{sub-zero, add-zero}
 use native.Mathlib.Omega.{arith}
 use borrow.Author.Tests.{eq-eqb, ne-eqb}
@@ -14,13 +14,13 @@ use Rattle.refusals.specs.declared.Verdict.the-variants.{Accepted, Refused}
 use Rattle.refusals.specs.Refusals.{refusal}
 use Rattle.image.specs.Contents.{lineCount, linePlace, kindAt, offsetAt, lengthAt, sumAt, linesVerdict, contentsVerdict}
 use Rattle.image.specs.Layout.{bodyAt, sumsVerdict, allSums, layoutVerdict}
-use Rattle.image.specs.ContentsLaws.{LinePassed, line-passed, contents-passed, bodies-within}
+use Rattle.image.specs.ContentsLaws.{FirstLineRight, line-passed, contents-passed, bodies-within}
 use Rattle.contents.specs.declared.ContentsLine.{ContentsLine}
 use Rattle.contents.specs.Lines.{lineIn, lineAt}
 use Rattle.contents.specs.LinesLaws.{whole-line}
 
--- i bodies have the right sum; the lines left are right, with the next body at offset
-pub record Summed (image : List ℕ) (count i offset : ℕ) : Type 0 where
+-- the first i bodies have the right sum, so those left decide; the lines left are right, with the next body at `offset`
+pub record SumsRightBefore (image : List ℕ) (count i offset : ℕ) : Type 0 where
   pub rest : sumsVerdict image (count - i) i ≡ allSums image
   pub previous : ℕ
   pub right : linesVerdict (length image) image (count - i) i previous offset ≡ Accepted
@@ -31,8 +31,8 @@ module _ (image : List ℕ) (count : ℕ) (good : contentsVerdict (length image)
   pub lines-few : count ≤ 16
   lines-few = omega (arith, contents-passed (length image) image good .counted .few)
 
-  pub summed-first : Summed image count 0 (2 + 8 * count)
-  summed-first =
+  pub sums-first : SumsRightBefore image count 0 (linePlace count)
+  sums-first =
       let g = contents-passed (length image) image good in
       record {
         rest = rw (sub-zero count, c);
@@ -42,7 +42,7 @@ module _ (image : List ℕ) (count : ℕ) (good : contentsVerdict (length image)
         within = omega (arith, g .counted .room);
       }
 
-module _ (image : List ℕ) (count i offset : ℕ) (j : Summed image count i offset) (more : i < count) where
+module _ (image : List ℕ) (count i offset : ℕ) (j : SumsRightBefore image count i offset) (more : i < count) where
   pub line-there : linePlace i + 8 ≤ length image
   line-there = omega (arith, j .room)
 
@@ -50,7 +50,7 @@ module _ (image : List ℕ) (count i offset : ℕ) (j : Summed image count i off
     line-is : line ≡ lineAt image i
     line-is = whole-line image i part p e
 
-    passed : LinePassed (length image) image (count - (i + 1)) i (j .previous) offset
+    passed : FirstLineRight (length image) image (count - (i + 1)) i (j .previous) offset
     passed = line-passed (length image) image (count - (i + 1)) i (j .previous) offset (rw (one-left count i more) at (j .right))
 
     starts : offsetAt image i ≡ offset
@@ -73,7 +73,7 @@ module _ (image : List ℕ) (count i offset : ℕ) (j : Summed image count i off
           let wrong = ne-eqb (total (bodyAt image i) % 65536) (sumAt image i) (λ q. n (sum-is ∙ q ∙ sym (rw line-is))) in
           e ∙ rw (one-left count i more, wrong) at (j .rest)
 
-      pub sums-more : sum ≡ line .sum → Summed image count (i + 1) (offset + line .length)
+      pub sums-more : sum ≡ line .sum → SumsRightBefore image count (i + 1) (offset + line .length)
       unfolding sumsVerdict
       sums-more e =
           let right = eq-eqb (total (bodyAt image i) % 65536) (sumAt image i) (sym sum-is ∙ e ∙ rw line-is) in
@@ -85,7 +85,7 @@ module _ (image : List ℕ) (count i offset : ℕ) (j : Summed image count i off
             within = body-there;
           }
 
-pub sums-end : (image : List ℕ) (count i offset : ℕ) → Summed image count i offset → count ≤ i → Accepted ≡ allSums image
+pub sums-end : (image : List ℕ) (count i offset : ℕ) → SumsRightBefore image count i offset → count ≤ i → Accepted ≡ allSums image
 unfolding sumsVerdict
 sums-end image count i offset j end = rw (none-left count i end) at (j .rest)
 

@@ -20,8 +20,8 @@ use Rattle.image.specs.Layout.{layoutVerdict}
 use Rattle.image.specs.Sections.{Section, sections, bodiesOf, imageOf, Fit}
 use Rattle.image.specs.Find.{bodyOf, isThere}
 use Rattle.image.specs.OrderLaws.{Ascending, none-below}
-use Rattle.image.specs.RoundTrip.{image-length, image-good, sections-of-image}
-use Rattle.image.specs.ImageFromSections.{sections-fit}
+use Rattle.image.specs.SectionsRoundTrip.{image-length, image-good, sections-of-image}
+use Rattle.image.specs.ImageRoundTrip.{sections-fit}
 use Rattle.builder.specs.Build.{buildImage}
 use Rattle.builder.specs.Lines.{linesOf}
 use Rattle.builder.specs.BuildLaws.{passes, lines-counted, lines-rise, lines-total, sections-again}

@@ -25,7 +25,7 @@ use Rattle.image.specs.Layout.{layoutVerdict}
 use Rattle.image.specs.Sections.{Section, sections, bodiesOf, imageOf}
 use Rattle.image.specs.Find.{bodyOf}
 use Rattle.image.specs.OrderLaws.{sections-ascend}
-use Rattle.image.specs.ImageFromSections.{sections-bytes}
+use Rattle.image.specs.ImageRoundTrip.{sections-bytes}
 use Rattle.builder.specs.Build.{buildImage}
 use Rattle.builder.specs.Lines.{linesOf}
 use Rattle.builder.specs.Built.{good-built}

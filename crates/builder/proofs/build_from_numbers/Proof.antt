@@ -5,8 +5,8 @@ use Rattle.builder.proofs.build_from_numbers.Tie as tie
 
 ruleset laws = (needs, settled-fills)
 
-begun-requires : tie.Need-begun-requires
-begun-requires c κs = search needs
+check-and-put-requires : tie.Need-check-and-put-requires
+check-and-put-requires c κs = search needs
 
 settled-requires : tie.Need-settled-requires
 settled-requires c κs = search needs
@@ -18,4 +18,4 @@ returns : tie.Need-returns
 returns c = search laws
 
 pub build-from-numbers-spec : {M : Type 1} → statement M
-build-from-numbers-spec = tie.close (tie.spec begun-requires settled-requires same-length returns)
+build-from-numbers-spec = tie.close (tie.spec check-and-put-requires settled-requires same-length returns)

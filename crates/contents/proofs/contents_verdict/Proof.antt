@@ -5,8 +5,8 @@ use Rattle.contents.proofs.contents_verdict.Tie as tie
 
 ruleset laws = (needs, start-decides, count-decides, lines-decide)
 
-start-requires : tie.Need-start-requires
-start-requires c κs = search laws
+start-verdict-requires : tie.Need-start-verdict-requires
+start-verdict-requires c κs = search laws
 
 enum-told : tie.Need-enum-told
 enum-told c = search laws
@@ -17,8 +17,8 @@ enum-told-2 c = search laws
 returns : tie.Need-returns
 returns c = search laws
 
-count-requires : tie.Need-count-requires
-count-requires c κs = search laws
+count-verdict-requires : tie.Need-count-verdict-requires
+count-verdict-requires c κs = search laws
 
 enum-told-3 : tie.Need-enum-told-3
 enum-told-3 c = search laws
@@ -29,8 +29,8 @@ enum-told-4 c = search laws
 returns-2 : tie.Need-returns-2
 returns-2 c = search laws
 
-lines-requires : tie.Need-lines-requires
-lines-requires c κs = search laws
+lines-verdict-requires : tie.Need-lines-verdict-requires
+lines-verdict-requires c κs = search laws
 
 returns-3 : tie.Need-returns-3
 returns-3 c = search laws
@@ -39,13 +39,13 @@ pub contents-verdict-spec : {M : Type 1} → statement M
 contents-verdict-spec =
     tie.close
     (tie.spec
-    start-requires
+    start-verdict-requires
     enum-told
     enum-told-2
     returns
-    count-requires
+    count-verdict-requires
     enum-told-3
     enum-told-4
     returns-2
-    lines-requires
+    lines-verdict-requires
     returns-3)

@@ -1,13 +1,13 @@
 use Prim.Native.Nat.{_-_}
 use borrow.Author.Needs.{needs}
-use Rattle.finder.specs.FinderLaws.{Looking, looking-first, stated-here, looking-more, stated-nowhere}
+use Rattle.finder.specs.FinderLaws.{LinesLeftDecide, looking-first, stated-here, looking-more, stated-nowhere}
 use Rattle.finder.proofs.stated.Statement.{statement}
 use Rattle.finder.proofs.stated.Tie as tie
 
 ruleset laws = (needs, looking-first, stated-here, looking-more, stated-nowhere)
 
 abbrev Inv-loop : tie.InvT-loop
-Inv-loop image kind count i₀ i = Looking image kind count i
+Inv-loop image kind count i₀ i = LinesLeftDecide image kind count i
 
 abbrev μ-loop : tie.MeasureT-loop
 μ-loop image kind count i₀ i = count - i

@@ -1,14 +1,14 @@
 use Prim.Native.Nat.{_-_, _≤_}
 use native.Mathlib.Omega.{arith}
 use borrow.Author.Needs.{needs}
-use Rattle.layout.specs.SumsLaws.{Summed, lines-few, summed-first, line-there, body-there, sums-stop, sums-more, sums-end}
+use Rattle.layout.specs.SumsLaws.{SumsRightBefore, lines-few, sums-first, line-there, body-there, sums-stop, sums-more, sums-end}
 use Rattle.layout.proofs.sums.Statement.{statement}
 use Rattle.layout.proofs.sums.Tie as tie
 
-ruleset laws = (needs, summed-first, line-there, body-there, sums-stop, sums-more, sums-end)
+ruleset laws = (needs, sums-first, line-there, body-there, sums-stop, sums-more, sums-end)
 
 abbrev Inv-loop : tie.InvT-loop
-Inv-loop image count i₀ offset₀ i offset = Summed image count i offset
+Inv-loop image count i₀ offset₀ i offset = SumsRightBefore image count i offset
 
 abbrev μ-loop : tie.MeasureT-loop
 μ-loop image count i₀ offset₀ i offset = count - i

@@ -1,14 +1,14 @@
 use Prim.Native.Nat.{_-_}
 use lib.ListN.{length}
 use borrow.Author.Needs.{needs}
-use Rattle.builder.specs.CheckLaws.{Rising, rising-first, rising-more, rising-low, rising-end}
+use Rattle.builder.specs.CheckLaws.{KindsRiseBefore, rising-first, rising-more, rising-low, rising-end}
 use Rattle.builder.proofs.check.kinds_rise.Statement.{statement}
 use Rattle.builder.proofs.check.kinds_rise.Tie as tie
 
 ruleset laws = (needs, rising-first, rising-more, rising-low, rising-end)
 
 abbrev Inv-loop : tie.InvT-loop
-Inv-loop kinds previous₀ i₀ previous i = Rising kinds previous i
+Inv-loop kinds previous₀ i₀ previous i = KindsRiseBefore kinds previous i
 
 abbrev μ-loop : tie.MeasureT-loop
 μ-loop kinds previous₀ i₀ previous i = length kinds - i

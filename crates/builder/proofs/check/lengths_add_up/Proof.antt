@@ -8,10 +8,10 @@ use Rattle.builder.proofs.check.lengths_add_up.Tie as tie
 ruleset laws = (needs, adding-first, adding-more, adding-short, adding-end)
 
 abbrev Inv-loop : tie.InvT-loop
-Inv-loop lengths whole left₀ i₀ left i = Adding lengths whole left i
+Inv-loop lengths bytes left₀ i₀ left i = Adding lengths bytes left i
 
 abbrev μ-loop : tie.MeasureT-loop
-μ-loop lengths whole left₀ i₀ left i = length lengths - i
+μ-loop lengths bytes left₀ i₀ left i = length lengths - i
 
 loop-holds : tie.Need-loop-holds Inv-loop μ-loop
 loop-holds c = search laws

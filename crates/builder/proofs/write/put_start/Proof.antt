@@ -1,7 +1,7 @@
 use borrow.Author.Needs.{needs}
 use Rattle.builder.specs.WriteLaws.{two-stores}
-use Rattle.builder.proofs.write.start.Statement.{statement}
-use Rattle.builder.proofs.write.start.Tie as tie
+use Rattle.builder.proofs.write.put_start.Statement.{statement}
+use Rattle.builder.proofs.write.put_start.Tie as tie
 
 ruleset laws = (needs, two-stores)
 
@@ -17,5 +17,5 @@ same-length c = search laws
 returns : tie.Need-returns
 returns c = search laws
 
-pub start-spec : {M : Type 1} → statement M
-start-spec = tie.close (tie.spec slice-write-image slice-write-image-2 same-length returns)
+pub put-start-spec : {M : Type 1} → statement M
+put-start-spec = tie.close (tie.spec slice-write-image slice-write-image-2 same-length returns)

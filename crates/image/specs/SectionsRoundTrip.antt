@@ -1,4 +1,4 @@
--- From sections to their image and back: the image of fit sections has a good layout, and its sections are those given.
+-- Sections, their image, its sections: the image of fit sections has a good layout, and its sections are those given.
 use mathlib.Core.List.{List, [], _∷_, _++_}
 use mathlib.Core.Path.{_≡_, refl, sym, ap, _∙_}
 use Prim.Native.Nat.{ℕ, _+_, _*_, _/_, _%_, _≤_, _<_}
@@ -16,20 +16,20 @@ use Rattle.refusals.specs.VerdictLaws.{ask-passes}
 use Rattle.image.specs.Contents.{lineCount, linePlace, kindAt, linesVerdict}
 use Rattle.image.specs.Layout.{bodyAt, sumsVerdict, layoutVerdict}
 use Rattle.image.specs.Sections.{Section, sectionsFrom, sections, twoBytes, contentsFrom, bodiesOf, imageOf, Rising, Fit}
-use Rattle.image.specs.LineLaws.{Says, line-says}
+use Rattle.image.specs.LineLaws.{LineSays, line-says}
 use Rattle.image.specs.ContentsLaws.{right-passes}
 use Rattle.image.specs.LayoutLaws.{layout-passes}
 
 -- the image holds the sections ss: their lines from line i on, and their bodies from `offset` to its end
-pub record Holds (image : List ℕ) (i offset : ℕ) (ss : List Section) : Type 0 where
+pub record HoldsSections (image : List ℕ) (i offset : ℕ) (ss : List Section) : Type 0 where
   pub contents : drop (linePlace i) image ≡ contentsFrom offset ss ++ drop (linePlace (i + length ss)) image
   pub bodies : drop offset image ≡ bodiesOf ss
   pub within : offset ≤ length image
 
 -- ---- the first section, and the others
 
-module _ (image : List ℕ) (i offset : ℕ) (s : Section) (ss : List Section) (h : Holds image i offset (s ∷ ss)) where
-  first-says : Says image i (s .kind) offset (length (s .body)) (total (s .body) % 65536)
+module _ (image : List ℕ) (i offset : ℕ) (s : Section) (ss : List Section) (h : HoldsSections image i offset (s ∷ ss)) where
+  first-says : LineSays image i (s .kind) offset (length (s .body)) (total (s .body) % 65536)
   unfolding contentsFrom
   first-says =
       line-says image (contentsFrom (offset + length (s .body)) ss ++ drop (linePlace (i + length (s ∷ ss))) image) i (s .kind) offset (length (s .body))
@@ -39,7 +39,7 @@ module _ (image : List ℕ) (i offset : ℕ) (s : Section) (ss : List Section) (
   unfolding bodiesOf
   first-body = rw (first-says .offset-is, first-says .size-is, h .bodies) (take-append-seam (s .body) (bodiesOf ss))
 
-  others : Holds image (i + 1) (offset + length (s .body)) ss
+  others : HoldsSections image (i + 1) (offset + length (s .body)) ss
   unfolding contentsFrom bodiesOf
   others =
       let next : linePlace (i + 1) ≡ linePlace i + 8 = omega arith in
@@ -53,7 +53,7 @@ module _ (image : List ℕ) (i offset : ℕ) (s : Section) (ss : List Section) (
 
 -- ---- what the checks say, and what is read
 
-sections-held : (image : List ℕ) (i offset : ℕ) (ss : List Section) → Holds image i offset ss → sectionsFrom image (length ss) i ≡ ss
+sections-held : (image : List ℕ) (i offset : ℕ) (ss : List Section) → HoldsSections image i offset ss → sectionsFrom image (length ss) i ≡ ss
 unfolding sectionsFrom
 sections-held image i offset [] h = refl
 sections-held image i offset (s ∷ ss) h =
@@ -63,7 +63,7 @@ sections-held image i offset (s ∷ ss) h =
       sections-held image (i + 1) (offset + length (s .body)) ss (others image i offset s ss h),
     )
 
-lines-held : (image : List ℕ) (i previous offset : ℕ) (ss : List Section) → Rising previous ss → Holds image i offset ss
+lines-held : (image : List ℕ) (i previous offset : ℕ) (ss : List Section) → Rising previous ss → HoldsSections image i offset ss
     → linesVerdict (length image) image (length ss) i previous offset ≡ Accepted
 unfolding linesVerdict bodiesOf
 lines-held image i previous offset [] r h =
@@ -75,7 +75,7 @@ lines-held image i previous offset (s ∷ ss) r h =
     rw (right-passes image i previous offset (record { rises = rises; zero-is = says .zero-is; starts = says .offset-is }), says .kind-is, says .size-is)
     (lines-held image (i + 1) (s .kind) (offset + length (s .body)) ss (r .2) (others image i offset s ss h))
 
-sums-held : (image : List ℕ) (i offset : ℕ) (ss : List Section) → Holds image i offset ss → sumsVerdict image (length ss) i ≡ Accepted
+sums-held : (image : List ℕ) (i offset : ℕ) (ss : List Section) → HoldsSections image i offset ss → sumsVerdict image (length ss) i ≡ Accepted
 unfolding sumsVerdict
 sums-held image i offset [] h = refl
 sums-held image i offset (s ∷ ss) h =
@@ -110,7 +110,7 @@ module _ (ss : List Section) where
       drop-at (0x51 ∷ length ss ∷ contentsFrom (linePlace (length ss)) ss) (bodiesOf ss) (linePlace (length ss))
       (let c = contents-length (linePlace (length ss)) ss in omega arith)
 
-  image-holds : Holds (imageOf ss) 0 (linePlace (length ss)) ss
+  image-holds : HoldsSections (imageOf ss) 0 (linePlace (length ss)) ss
   unfolding imageOf
   image-holds =
       record {

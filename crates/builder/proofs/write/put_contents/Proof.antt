@@ -2,8 +2,8 @@ use Prim.Native.Nat.{_-_}
 use lib.ListN.{length}
 use borrow.Author.Needs.{needs}
 use Rattle.builder.specs.WriteLaws.{Writing, body-within, kind-fits, length-fits, start-fits, writing-first, writing-more, writing-end}
-use Rattle.builder.proofs.write.contents.Statement.{statement}
-use Rattle.builder.proofs.write.contents.Tie as tie
+use Rattle.builder.proofs.write.put_contents.Statement.{statement}
+use Rattle.builder.proofs.write.put_contents.Tie as tie
 
 ruleset laws = (needs, body-within, kind-fits, length-fits, start-fits, writing-first, writing-more, writing-end)
 
@@ -13,8 +13,11 @@ Inv-loop kinds lengths bodies image₀ first start₀ i₀ image start i = Writi
 abbrev μ-loop : tie.MeasureT-loop
 μ-loop kinds lengths bodies image₀ first start₀ i₀ image start i = length kinds - i
 
-line-place-requires : tie.Need-line-place-requires Inv-loop μ-loop
-line-place-requires c κs = search laws
+mul-first : tie.Need-mul-first Inv-loop μ-loop
+mul-first c = search laws
+
+add-first : tie.Need-add-first Inv-loop μ-loop
+add-first c = search laws
 
 loop-holds : tie.Need-loop-holds Inv-loop μ-loop
 loop-holds c = search laws
@@ -28,29 +31,32 @@ shared-slice-read-length c = search laws
 body-sum-requires : tie.Need-body-sum-requires Inv-loop μ-loop
 body-sum-requires c κs = search laws
 
-line-place-requires-2 : tie.Need-line-place-requires-2 Inv-loop μ-loop
-line-place-requires-2 c κs = search laws
+mul-put-line : tie.Need-mul-put-line Inv-loop μ-loop
+mul-put-line c = search laws
 
-mul-line : tie.Need-mul-line Inv-loop μ-loop
-mul-line c = search laws
+add-put-line : tie.Need-add-put-line Inv-loop μ-loop
+add-put-line c = search laws
 
-shared-slice-read-line : tie.Need-shared-slice-read-line Inv-loop μ-loop
-shared-slice-read-line c = search laws
+mul-put-line-2 : tie.Need-mul-put-line-2 Inv-loop μ-loop
+mul-put-line-2 c = search laws
 
-cast-line : tie.Need-cast-line Inv-loop μ-loop
-cast-line c = search laws
+shared-slice-read-put-line : tie.Need-shared-slice-read-put-line Inv-loop μ-loop
+shared-slice-read-put-line c = search laws
 
-add-line : tie.Need-add-line Inv-loop μ-loop
-add-line c = search laws
+cast-put-line : tie.Need-cast-put-line Inv-loop μ-loop
+cast-put-line c = search laws
 
-cast-line-2 : tie.Need-cast-line-2 Inv-loop μ-loop
-cast-line-2 c = search laws
+add-put-line-2 : tie.Need-add-put-line-2 Inv-loop μ-loop
+add-put-line-2 c = search laws
 
-cast-line-3 : tie.Need-cast-line-3 Inv-loop μ-loop
-cast-line-3 c = search laws
+cast-put-line-2 : tie.Need-cast-put-line-2 Inv-loop μ-loop
+cast-put-line-2 c = search laws
 
-line-requires : tie.Need-line-requires Inv-loop μ-loop
-line-requires c κs = search laws
+cast-put-line-3 : tie.Need-cast-put-line-3 Inv-loop μ-loop
+cast-put-line-3 c = search laws
+
+put-line-requires : tie.Need-put-line-requires Inv-loop μ-loop
+put-line-requires c κs = search laws
 
 add-start : tie.Need-add-start Inv-loop μ-loop
 add-start c = search laws
@@ -70,25 +76,27 @@ same-length c = search laws
 returns : tie.Need-returns Inv-loop μ-loop
 returns c = search laws
 
-pub contents-spec : {M : Type 1} → statement M
-contents-spec =
+pub put-contents-spec : {M : Type 1} → statement M
+put-contents-spec =
     tie.close
     (tie.spec
     Inv-loop
     μ-loop
-    line-place-requires
+    mul-first
+    add-first
     loop-holds
     mul-length
     shared-slice-read-length
     body-sum-requires
-    line-place-requires-2
-    mul-line
-    shared-slice-read-line
-    cast-line
-    add-line
-    cast-line-2
-    cast-line-3
-    line-requires
+    mul-put-line
+    add-put-line
+    mul-put-line-2
+    shared-slice-read-put-line
+    cast-put-line
+    add-put-line-2
+    cast-put-line-2
+    cast-put-line-3
+    put-line-requires
     add-start
     add-i
     loop-less

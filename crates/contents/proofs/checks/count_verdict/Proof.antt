@@ -1,7 +1,7 @@
 use borrow.Author.Needs.{needs}
 use Rattle.contents.specs.ChecksLaws.{few-lines, no-line, too-many, no-room, count-right}
-use Rattle.contents.proofs.checks.count.Statement.{statement}
-use Rattle.contents.proofs.checks.count.Tie as tie
+use Rattle.contents.proofs.checks.count_verdict.Statement.{statement}
+use Rattle.contents.proofs.checks.count_verdict.Tie as tie
 
 ruleset laws = (needs, few-lines, no-line, too-many, no-room, count-right)
 
@@ -35,8 +35,8 @@ returns-3 c = search laws
 returns-4 : tie.Need-returns-4
 returns-4 c = search laws
 
-pub count-spec : {M : Type 1} → statement M
-count-spec =
+pub count-verdict-spec : {M : Type 1} → statement M
+count-verdict-spec =
     tie.close
     (tie.spec
     line-count-requires

@@ -1,7 +1,7 @@
 use borrow.Author.Needs.{needs}
 use Rattle.builder.specs.CheckLaws.{lines-few, verdict-lines, verdict-lengths, verdict-size, verdict-accepted}
-use Rattle.builder.proofs.check.verdict.Statement.{statement}
-use Rattle.builder.proofs.check.verdict.Tie as tie
+use Rattle.builder.proofs.check.build_verdict.Statement.{statement}
+use Rattle.builder.proofs.check.build_verdict.Tie as tie
 
 ruleset laws = (needs, lines-few, verdict-lines, verdict-lengths, verdict-size, verdict-accepted)
 
@@ -35,8 +35,8 @@ returns-3 c = search laws
 returns-4 : tie.Need-returns-4
 returns-4 c = search laws
 
-pub verdict-spec : {M : Type 1} → statement M
-verdict-spec =
+pub build-verdict-spec : {M : Type 1} → statement M
+build-verdict-spec =
     tie.close
     (tie.spec
     lines-right-requires

@@ -2,8 +2,8 @@ use Prim.Native.Nat.{_-_}
 use borrow.Author.Needs.{needs}
 use lib.ListN.{length}
 use Rattle.builder.specs.WriteLaws.{Copying, copying-first, copied-on, copying-end}
-use Rattle.builder.proofs.write.block.Statement.{statement}
-use Rattle.builder.proofs.write.block.Tie as tie
+use Rattle.builder.proofs.write.put_bodies.Statement.{statement}
+use Rattle.builder.proofs.write.put_bodies.Tie as tie
 
 ruleset laws = (needs, copying-first, copied-on, copying-end)
 
@@ -43,8 +43,8 @@ same-length c = search laws
 returns : tie.Need-returns Inv-loop μ-loop
 returns c = copying-end _ _ _ _ _ (copied-on _ _ _ _ _ _ _ (search needs) (c .before .before .copy-on2 .ensures) (search needs)) (search needs)
 
-pub block-spec : {M : Type 1} → statement M
-block-spec =
+pub put-bodies-spec : {M : Type 1} → statement M
+put-bodies-spec =
     tie.close
     (tie.spec
     Inv-loop

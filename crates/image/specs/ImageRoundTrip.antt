@@ -1,4 +1,4 @@
--- From an image to its sections and back: an image of bytes with a good layout is, byte for byte, the image of its own sections, which fit.
+-- An image, its sections, their image: an image of bytes with a good layout is, byte for byte, the image of its own sections, which fit.
 use mathlib.Core.List.{List, _∷_, _++_}
 use mathlib.Core.Path.{_≡_, refl, sym, ap, _∙_}
 use Prim.Native.Nat.{ℕ, zero, suc, _+_, _%_, _≤_}
@@ -18,7 +18,7 @@ use Rattle.image.specs.Sections.{Section, sectionsFrom, sections, conten
 use Rattle.image.specs.LineLaws.{line-spelled}
 use Rattle.image.specs.ContentsLaws.{line-passed, lines-ended}
 use Rattle.image.specs.LayoutLaws.{sum-passed, layout-passed}
-use Rattle.image.specs.RoundTrip.{Holds}
+use Rattle.image.specs.SectionsRoundTrip.{HoldsSections}
 use Rattle.image.specs.Find.{bodyOf}
 use Rattle.image.specs.OrderLaws.{sections-ascend, told-by-bodies}
 
@@ -44,7 +44,7 @@ rising-back size image (suc left) i previous offset b e =
     (p .right .rises, omega arith, rising-back size image left (i + 1) (kindAt image i) (offset + lengthAt image i) b (p .others))
 
 -- a line before the others, whose body stands before theirs
-module _ (image : List ℕ) (i offset : ℕ) (ss : List Section) (h : Holds image (i + 1) (offset + lengthAt image i) ss)
+module _ (image : List ℕ) (i offset : ℕ) (ss : List Section) (h : HoldsSections image (i + 1) (offset + lengthAt image i) ss)
     (starts : offsetAt image i ≡ offset) where
   body-long : length (bodyAt image i) ≡ lengthAt image i
   body-long = rw starts (length-take-le (lengthAt image i) (drop offset image) (omega (arith, length-drop offset image, h .within)))
@@ -53,7 +53,7 @@ module _ (image : List ℕ) (i offset : ℕ) (ss : List Section) (h : Holds imag
   bodies-more = rw (starts, ← h .bodies, ← drop-drop (lengthAt image i) offset image) (sym (take-append-drop (lengthAt image i) (drop offset image)))
 
   holds-more : Bytes image → linePlace (i + 1) ≤ length image → zeroAt image i ≡ 0 → total (bodyAt image i) % 65536 ≡ sumAt image i
-      → Holds image i offset (record { kind = kindAt image i; body = bodyAt image i } ∷ ss)
+      → HoldsSections image i offset (record { kind = kindAt image i; body = bodyAt image i } ∷ ss)
   unfolding contentsFrom bodiesOf
   holds-more b room z sum =
       let last : i + 1 + length ss ≡ i + suc (length ss) = omega arith in
@@ -65,7 +65,7 @@ module _ (image : List ℕ) (i offset : ℕ) (ss : List Section) (h : Holds imag
 
 holds-back : (image : List ℕ) (left i previous offset : ℕ) → Bytes image → linePlace (i + left) ≤ length image
     → linesVerdict (length image) image left i previous offset ≡ Accepted → sumsVerdict image left i ≡ Accepted
-    → Holds image i offset (sectionsFrom image left i)
+    → HoldsSections image i offset (sectionsFrom image left i)
 unfolding sectionsFrom contentsFrom bodiesOf
 holds-back image zero i previous offset b room e f =
     let end = lines-ended (length image) image i previous offset e in
@@ -79,7 +79,7 @@ holds-back image (suc left) i previous offset b room e f =
 -- ---- the whole image
 
 module _ (image : List ℕ) (b : Bytes image) (good : layoutVerdict image ≡ Accepted) where
-  held : Holds image 0 (linePlace (lineCount image)) (sections image)
+  held : HoldsSections image 0 (linePlace (lineCount image)) (sections image)
   unfolding sections
   held =
       let g = layout-passed image good in
@@ -104,10 +104,11 @@ module _ (image : List ℕ) (b : Bytes image) (good : layoutVerdict image ≡ Ac
   pub image-of-sections : imageOf (sections image) ≡ image
   unfolding imageOf
   image-of-sections =
-      let g = layout-passed image good in
+      let start = layout-passed image good .contents .started in
+      let none = zero-add (length (sections image)) in
       sym
-      (drop-two image 0 (g .contents .started .enough)
-      ∙ rw (← byte-at image 0, g .contents .started .marked, ← byte-at image 1, held .contents, zero-add (length (sections image)), sections-count image, held .bodies))
+      (drop-two image 0 (start .enough)
+      ∙ rw (← byte-at image 0, start .marked, ← byte-at image 1, held .contents, none, sections-count image, held .bodies))
 
 -- so one is told by its bodies: where each kind has the same body in two such images, or none in either, these are equal byte for byte
 pub same-bodies-same-image : (image image′ : List ℕ) → Bytes image → Bytes image′ → layoutVerdict image ≡ Accepted → layoutVerdict image′ ≡ Accepted

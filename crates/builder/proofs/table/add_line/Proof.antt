@@ -1,9 +1,12 @@
 use borrow.Author.Needs.{needs}
-use Rattle.builder.specs.GatherLaws.{gathered-more, gathered-many}
-use Rattle.builder.proofs.gather.put.Statement.{statement}
-use Rattle.builder.proofs.gather.put.Tie as tie
+use Rattle.builder.specs.TableLaws.{table-more, table-full}
+use Rattle.builder.proofs.table.add_line.Statement.{statement}
+use Rattle.builder.proofs.table.add_line.Tie as tie
 
-ruleset laws = (needs, gathered-more, gathered-many)
+ruleset laws = (needs, table-more, table-full)
+
+returns : tie.Need-returns
+returns c = search laws
 
 mul-more : tie.Need-mul-more
 mul-more c = search laws
@@ -20,20 +23,17 @@ element-write-more-2 c = search laws
 add-more : tie.Need-add-more
 add-more c = search laws
 
-returns : tie.Need-returns
-returns c = search laws
-
 returns-2 : tie.Need-returns-2
 returns-2 c = search laws
 
-pub put-spec : {M : Type 1} → statement M
-put-spec =
+pub add-line-spec : {M : Type 1} → statement M
+add-line-spec =
     tie.close
     (tie.spec
+    returns
     mul-more
     element-write-more
     mul-more-2
     element-write-more-2
     add-more
-    returns
     returns-2)

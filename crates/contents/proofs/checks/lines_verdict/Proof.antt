@@ -2,14 +2,14 @@ use Prim.Native.Nat.{_-_}
 use Prim.Native.Nat.{_<_}
 use native.Mathlib.Omega.{arith}
 use borrow.Author.Needs.{needs}
-use Rattle.contents.specs.ChecksLaws.{Judging, few-lines, judging-first, lines-stop, lines-more, end-wrong, end-right}
-use Rattle.contents.proofs.checks.lines.Statement.{statement}
-use Rattle.contents.proofs.checks.lines.Tie as tie
+use Rattle.contents.specs.ChecksLaws.{LinesRightBefore, few-lines, lines-first, lines-stop, lines-more, end-wrong, end-right}
+use Rattle.contents.proofs.checks.lines_verdict.Statement.{statement}
+use Rattle.contents.proofs.checks.lines_verdict.Tie as tie
 
-ruleset laws = (needs, few-lines, judging-first, lines-stop, lines-more, end-wrong, end-right)
+ruleset laws = (needs, few-lines, lines-first, lines-stop, lines-more, end-wrong, end-right)
 
 abbrev Inv-loop : tie.InvT-loop
-Inv-loop contents size count i₀ previous₀ offset₀ i previous offset = Judging size contents count i previous offset
+Inv-loop contents size count i₀ previous₀ offset₀ i previous offset = LinesRightBefore size contents count i previous offset
 
 abbrev μ-loop : tie.MeasureT-loop
 μ-loop contents size count i₀ previous₀ offset₀ i previous offset = count - i
@@ -27,7 +27,7 @@ add-offset : tie.Need-add-offset Inv-loop μ-loop
 add-offset c = omega (arith, few c)
 
 loop-holds : tie.Need-loop-holds Inv-loop μ-loop
-loop-holds c = judging-first _ _ _ (λ i. c .before .shared-slice-known .given i .fits) (c .line-count .ensures)
+loop-holds c = lines-first _ _ _ (λ i. c .before .shared-slice-known .given i .fits) (c .line-count .ensures)
 
 line-of-requires : tie.Need-line-of-requires Inv-loop μ-loop
 line-of-requires c κs = search laws
@@ -65,8 +65,8 @@ returns-2 c = search laws
 returns-3 : tie.Need-returns-3 Inv-loop μ-loop
 returns-3 c = search laws
 
-pub lines-spec : {M : Type 1} → statement M
-lines-spec =
+pub lines-verdict-spec : {M : Type 1} → statement M
+lines-verdict-spec =
     tie.close
     (tie.spec
     Inv-loop

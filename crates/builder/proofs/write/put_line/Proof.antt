@@ -2,8 +2,8 @@ use native.Mathlib.Omega.{arith}
 use borrow.Author.Needs.{needs}
 use lib.ListN.{length-set}
 use Rattle.builder.specs.WriteLaws.{eight-stores}
-use Rattle.builder.proofs.write.line.Statement.{statement}
-use Rattle.builder.proofs.write.line.Tie as tie
+use Rattle.builder.proofs.write.put_line.Statement.{statement}
+use Rattle.builder.proofs.write.put_line.Tie as tie
 
 ruleset laws = (needs, eight-stores)
 
@@ -76,8 +76,8 @@ same-length c = search laws
 returns : tie.Need-returns
 returns c = search laws
 
-pub line-spec : {M : Type 1} → statement M
-line-spec =
+pub put-line-spec : {M : Type 1} → statement M
+put-line-spec =
     tie.close
     (tie.spec
     slice-write-image

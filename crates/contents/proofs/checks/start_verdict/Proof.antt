@@ -1,7 +1,7 @@
 use borrow.Author.Needs.{needs}
 use Rattle.contents.specs.ChecksLaws.{too-short, too-long, unmarked, start-right}
-use Rattle.contents.proofs.checks.start.Statement.{statement}
-use Rattle.contents.proofs.checks.start.Tie as tie
+use Rattle.contents.proofs.checks.start_verdict.Statement.{statement}
+use Rattle.contents.proofs.checks.start_verdict.Tie as tie
 
 ruleset laws = (needs, too-short, too-long, unmarked, start-right)
 
@@ -29,8 +29,8 @@ returns-3 c = search laws
 returns-4 : tie.Need-returns-4
 returns-4 c = search laws
 
-pub start-spec : {M : Type 1} → statement M
-start-spec =
+pub start-verdict-spec : {M : Type 1} → statement M
+start-verdict-spec =
     tie.close
     (tie.spec
     refused-requires
