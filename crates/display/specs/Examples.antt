@@ -1,9 +1,10 @@
 -- Document 01's examples of the show program: what is printed of each verdict.
-use mathlib.Core.List.{List, _++_}
+use mathlib.Core.List.{List}
 use mathlib.Core.Path.{_≡_, refl}
 use Prim.Native.Nat.{ℕ}
 use native.Mathlib.Omega.{arith}
 use lib.IntN.{pos}
+use Rattle.limits.specs.Limits.{largestImage, lastLevel}
 use Rattle.laws.specs.Characters.{characters}
 use Rattle.laws.specs.Sums.{total}
 use Rattle.refusals.specs.Refusals.{result, refusal}
@@ -13,10 +14,10 @@ use Rattle.hexformat.specs.ComputedBytes.{computed-bytes}
 use Rattle.hexformat.specs.RoundTrip.{written-reads-back}
 use Rattle.panel.specs.Examples.{image, level-1, level-2, unknown-127}
 use Rattle.display.specs.Words.{decimalIn}
-use Rattle.display.specs.Page.{identityWords, setsWords, levelLine, textRefused, pageOf}
+use Rattle.display.specs.Page.{identityWords, setsWords, levelLine, levelLines, textRefused, pageOf}
 
-pub contents-only : levelLine 1 (image 200) ++ levelLine 2 (image 200) ≡ characters "level 1 refused 10 1\nlevel 2 refused 10 1\n"
-unfolding levelLine decimalIn
+pub contents-only : levelLines lastLevel (image 200) ≡ characters "level 1 refused 10 1\nlevel 2 refused 10 1\n"
+unfolding levelLines levelLine decimalIn
 contents-only = rw (level-1, level-2)
 
 -- the whole page of the text in document 01
@@ -27,8 +28,8 @@ text-written : textOf (image 200) ≡ text
 unfolding textOf writing recordText spell hexDigit headAndData checksum total
 text-written = refl
 
-text-read : readText 4096 text ≡ result (image 200)
-text-read = rw (← text-written) (written-reads-back (image 200) (computed-bytes (image 200) refl) 4096 (omega arith) (omega arith))
+text-read : readText largestImage text ≡ result (image 200)
+text-read = rw (← text-written) (written-reads-back (image 200) (computed-bytes (image 200) refl) largestImage (omega arith) (omega arith))
 
 pub document-page : pageOf text ≡ characters "level 1 refused 10 1\nlevel 2 refused 10 1\n"
 unfolding pageOf

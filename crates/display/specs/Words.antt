@@ -3,6 +3,7 @@ use mathlib.Core.Bool.{cond}
 use mathlib.Core.List.{List, [], _∷_, _++_}
 use Prim.Native.Nat.{ℕ, zero, suc, _+_, _/_, _%_}
 use lib.Dec.{ltb}
+use lib.ListN.{length}
 use Rattle.laws.specs.Characters.{characters}
 
 abbrev pub digit : ℕ → ℕ
@@ -23,3 +24,15 @@ field words n = words ++ decimal n
 -- month or day after a hyphen, in two digits
 abbrev pub twoDigits : ℕ → List ℕ
 twoDigits n = cond (ltb n 10) (field (characters "-0") n) (field (characters "-") n)
+
+-- ---- the room that these take on a page
+
+-- the digits of a number of 64 bits
+abbrev pub numberRoom : ℕ
+numberRoom = 20
+
+abbrev pub fieldRoom : List ℕ → ℕ
+fieldRoom words = length words + numberRoom
+
+abbrev pub twoDigitsRoom : ℕ
+twoDigitsRoom = fieldRoom (characters "-0")

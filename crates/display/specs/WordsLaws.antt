@@ -13,9 +13,9 @@ use Rattle.io.specs.Digits.{glyph, digits, Fewest}
 use Rattle.laws.specs.Cases.{split}
 use Rattle.laws.specs.Characters.{characters}
 use Rattle.laws.specs.Wrote.{Wrote, wrote-nothing, wrote-character, wrote-then}
-use Rattle.display.specs.Words.{digit, decimalIn, decimal, field, twoDigits}
+use Rattle.display.specs.Words.{digit, decimalIn, decimal, field, twoDigits, numberRoom, fieldRoom}
 
--- the words were put at `at`, and end at `end`
+-- the words were put at `at` of the page d, and end at `end`; d′ is the page then
 pub record Printed (at : ℕ) (words d : List ℕ) (end : ℕ) (d′ : List ℕ) : Type 0 where
   pub wrote : Wrote at words d d′
   pub ends : end ≡ at + length words
@@ -29,7 +29,7 @@ printed-then at m end p q d d₁ d₂ w v =
 
 -- ---- the words copied
 
--- the first i of them
+-- the loop's invariant: the first i of the words are on the page
 pub record Putting (at : ℕ) (words d₀ d : List ℕ) (i : ℕ) : Type 0 where
   pub within : i ≤ length words
   pub kept : length d ≡ length d₀
@@ -87,17 +87,18 @@ fewest-decimal zero n f = absurd (omega (arith, f .0))
 fewest-decimal (suc k) n f = fewest-are k n n f (omega arith)
 
 -- a number of 64 bits has 20 digits at most
-few-digits : (k n : ℕ) → Fewest 10 1 n k → n < 2 ^ 64 → k ≤ 20
+few-digits : (k n : ℕ) → Fewest 10 1 n k → n < 2 ^ 64 → k ≤ numberRoom
 few-digits k n f h =
     split k 20 (λ few. few)
     (λ (many : 20 < k). absurd (omega (arith, f .2 (omega arith), pow-le-pow-right {n = 10} (omega arith) {i = 20} {j = k - 1} (omega arith))))
 
 module _ (k n : ℕ) (out : List ℕ) (c : Counts k out) (f : Fewest 10 1 n k) (h : n < 2 ^ 64) where
-  pub digits-fit : length (take k out) ≤ 20
+  pub digits-fit : length (take k out) ≤ numberRoom
   digits-fit = omega (arith, c .1, few-digits k n f h)
 
-  pub field-printed : (at m end : ℕ) (words d d₁ d₂ : List ℕ) → take k out ≡ digits 10 k n → Printed at words d m d₁ → Printed m (take k out) d₁ end d₂
-      → Printed at (field words n) d end d₂ × (end ≤ at + (length words + 20))
+  pub field-printed : (at m end : ℕ) (words d d₁ d₂ : List ℕ)
+      → take k out ≡ digits 10 k n → Printed at words d m d₁ → Printed m (take k out) d₁ end d₂
+      → Printed at (field words n) d end d₂ × (end ≤ at + fieldRoom words)
   field-printed at m end words d d₁ d₂ e p q =
       (printed-then at m end words (decimal n) d d₁ d₂ p (rw (← fewest-decimal k n f, ← e) q), omega (arith, p .ends, q .ends, digits-fit))
 

@@ -1,7 +1,7 @@
 use borrow.Author.Needs.{needs}
 use Rattle.display.specs.PageLaws.{accepted-printed}
-use Rattle.display.proofs.lines.put_accepted.Statement.{statement}
-use Rattle.display.proofs.lines.put_accepted.Tie as tie
+use Rattle.display.proofs.page.put_accepted.Statement.{statement}
+use Rattle.display.proofs.page.put_accepted.Tie as tie
 
 ruleset laws = (needs, accepted-printed)
 

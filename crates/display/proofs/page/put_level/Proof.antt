@@ -1,7 +1,7 @@
 use borrow.Author.Needs.{needs}
 use Rattle.display.specs.PageLaws.{verdict-laid, level-accepted, level-refused}
-use Rattle.display.proofs.lines.put_level.Statement.{statement}
-use Rattle.display.proofs.lines.put_level.Tie as tie
+use Rattle.display.proofs.page.put_level.Statement.{statement}
+use Rattle.display.proofs.page.put_level.Tie as tie
 
 slice-aggregate-put-field : tie.Need-slice-aggregate-put-field
 slice-aggregate-put-field c = search needs

@@ -1,7 +1,7 @@
 use borrow.Author.Needs.{needs}
 use Rattle.display.specs.WordsLaws.{printed-then}
-use Rattle.display.proofs.lines.put_orders.Statement.{statement}
-use Rattle.display.proofs.lines.put_orders.Tie as tie
+use Rattle.display.proofs.page.put_orders.Statement.{statement}
+use Rattle.display.proofs.page.put_orders.Tie as tie
 
 cast-put-field : tie.Need-cast-put-field
 cast-put-field c = search needs

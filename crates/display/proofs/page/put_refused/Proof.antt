@@ -1,7 +1,9 @@
 use borrow.Author.Needs.{needs}
-use Rattle.display.specs.PageLaws.{identity-printed}
-use Rattle.display.proofs.lines.put_identity.Statement.{statement}
-use Rattle.display.proofs.lines.put_identity.Tie as tie
+use Rattle.display.specs.WordsLaws.{printed-then}
+use Rattle.display.proofs.page.put_refused.Statement.{statement}
+use Rattle.display.proofs.page.put_refused.Tie as tie
+
+ruleset laws = (needs, printed-then)
 
 slice-aggregate-put-field : tie.Need-slice-aggregate-put-field
 slice-aggregate-put-field c = search needs
@@ -15,35 +17,31 @@ put-field-requires c κs = search needs
 slice-aggregate-put-field-2 : tie.Need-slice-aggregate-put-field-2
 slice-aggregate-put-field-2 c = search needs
 
-cast-put-field-2 : tie.Need-cast-put-field-2
-cast-put-field-2 c = search needs
-
 put-field-requires-2 : tie.Need-put-field-requires-2
 put-field-requires-2 c κs = search needs
 
-put-two-digits-requires : tie.Need-put-two-digits-requires
-put-two-digits-requires c κs = search needs
+slice-aggregate-put : tie.Need-slice-aggregate-put
+slice-aggregate-put c = search needs
 
-put-two-digits-requires-2 : tie.Need-put-two-digits-requires-2
-put-two-digits-requires-2 c κs = search needs
+put-requires : tie.Need-put-requires
+put-requires c κs = search needs
 
 same-length : tie.Need-same-length
 same-length c = search needs
 
 returns : tie.Need-returns
-returns c = search (needs, identity-printed)
+returns c = search laws
 
-pub put-identity-spec : {M : Type 1} → statement M
-put-identity-spec =
+pub put-refused-spec : {M : Type 1} → statement M
+put-refused-spec =
     tie.close
     (tie.spec
     slice-aggregate-put-field
     cast-put-field
     put-field-requires
     slice-aggregate-put-field-2
-    cast-put-field-2
     put-field-requires-2
-    put-two-digits-requires
-    put-two-digits-requires-2
+    slice-aggregate-put
+    put-requires
     same-length
     returns)

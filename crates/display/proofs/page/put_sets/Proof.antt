@@ -1,7 +1,7 @@
 use borrow.Author.Needs.{needs}
 use Rattle.display.specs.WordsLaws.{printed-then}
-use Rattle.display.proofs.lines.put_sets.Statement.{statement}
-use Rattle.display.proofs.lines.put_sets.Tie as tie
+use Rattle.display.proofs.page.put_sets.Statement.{statement}
+use Rattle.display.proofs.page.put_sets.Tie as tie
 
 ruleset laws = (needs, printed-then)
 

@@ -1,24 +1,29 @@
-// Each function asks for the room of its words and of 20 digits for each number.
+// What is printed of a text and of an image, put on a page part by part; each part asks for its room.
 ghost use mathlib.Core.Path.{_≡_};
 ghost use Prim.Native.Nat.{_+_, _≤_};
 ghost use lib.ListN.{length};
 ghost use Rattle.image.specs.Layout.{layoutVerdict};
 ghost use Rattle.image.specs.Find.{Found};
-ghost use Rattle.display.specs.Page.{refusedWords, identityWords, orderWords, setsWords, acceptedWords, levelLine, textRefused, pageOf};
+ghost use Rattle.limits.specs.Limits.{lastLevel};
+ghost use Rattle.display.specs.Page.{refusedWords, identityWords, orderWords, setsWords, acceptedWords, levelLine, levelLines, textRefused, pageOf};
+ghost use Rattle.display.specs.Page.{refusedRoom, identityRoom, orderRoom, setsRoom, acceptedRoom, levelRoom, textRefusedRoom, pageRoom};
 ghost use Rattle.display.specs.WordsLaws.{Printed};
 use crate::words::put;
 use crate::words::put_field;
 use crate::words::put_two_digits;
 use bodies::Identity;
+use limits::LARGEST_IMAGE;
+use limits::LAST_LEVEL;
+use limits::LONGEST_SHOWN_TEXT;
 use refusals::Filled;
 use refusals::Refusal;
 use refusals::Verdict;
 use sets::Set;
 
 fn put_refused(page: &mut [u8], at: usize, refusal: Refusal) -> usize
-    requires { ⌜ at + 51 ≤ length (now page) ⌝ }
+    requires { ⌜ at + refusedRoom ≤ length (now page) ⌝ }
     ensures { λ r. ⌜ Printed at (refusedWords refusal) (now (page .entry)) r (now (page .exit)) ⌝ }
-    ensures { λ r. ⌜ r ≤ at + 51 ⌝ }
+    ensures { λ r. ⌜ r ≤ at + refusedRoom ⌝ }
 {
     let number = put_field(page, at, b" refused ", refusal.number as u64);
     let detail = put_field(page, number, b" ", refusal.detail);
@@ -26,9 +31,9 @@ fn put_refused(page: &mut [u8], at: usize, refusal: Refusal) -> usize
 }
 
 fn put_identity(page: &mut [u8], at: usize, identity: Identity) -> usize
-    requires { ⌜ at + 98 ≤ length (now page) ⌝ }
+    requires { ⌜ at + identityRoom ≤ length (now page) ⌝ }
     ensures { λ r. ⌜ Printed at (identityWords identity) (now (page .entry)) r (now (page .exit)) ⌝ }
-    ensures { λ r. ⌜ r ≤ at + 98 ⌝ }
+    ensures { λ r. ⌜ r ≤ at + identityRoom ⌝ }
 {
     let serial = put_field(page, at, b" serial ", identity.serial as u64);
     let year = put_field(page, serial, b" date ", identity.year as u64);
@@ -37,9 +42,9 @@ fn put_identity(page: &mut [u8], at: usize, identity: Identity) -> usize
 }
 
 fn put_orders(page: &mut [u8], at: usize, words: &[u8], set: Set) -> usize
-    requires { ⌜ at + (length (now words) + 41) ≤ length (now page) ⌝ }
+    requires { ⌜ at + orderRoom (now words) ≤ length (now page) ⌝ }
     ensures { λ r. ⌜ Printed at (orderWords (now (words .entry)) set) (now (page .entry)) r (now (page .exit)) ⌝ }
-    ensures { λ r. ⌜ r ≤ at + (length (now (words .entry)) + 41) ⌝ }
+    ensures { λ r. ⌜ r ≤ at + orderRoom (now (words .entry)) ⌝ }
 {
     let by_pressure = set.pressure;
     let by_temperature = set.temperature;
@@ -48,9 +53,9 @@ fn put_orders(page: &mut [u8], at: usize, words: &[u8], set: Set) -> usize
 }
 
 fn put_sets(page: &mut [u8], at: usize, pressure_set: Set, temperature_set: Set) -> usize
-    requires { ⌜ at + 106 ≤ length (now page) ⌝ }
+    requires { ⌜ at + setsRoom ≤ length (now page) ⌝ }
     ensures { λ r. ⌜ Printed at (setsWords «pressure_set» «temperature_set») (now (page .entry)) r (now (page .exit)) ⌝ }
-    ensures { λ r. ⌜ r ≤ at + 106 ⌝ }
+    ensures { λ r. ⌜ r ≤ at + setsRoom ⌝ }
 {
     let pressure = put_orders(page, at, b" pressure ", pressure_set);
     let temperature = put_orders(page, pressure, b" temperature ", temperature_set);
@@ -66,10 +71,10 @@ fn body_of(image: &[u8], kind: u32) -> &[u8]
 }
 
 fn put_accepted(page: &mut [u8], at: usize, image: &[u8]) -> usize
-    requires { ⌜ at + 204 ≤ length (now page) ⌝ }
+    requires { ⌜ at + acceptedRoom ≤ length (now page) ⌝ }
     requires { ⌜ layoutVerdict (now image) ≡ Verdict.Accepted ⌝ }
     ensures { λ r. ⌜ Printed at (acceptedWords (now (image .entry))) (now (page .entry)) r (now (page .exit)) ⌝ }
-    ensures { λ r. ⌜ r ≤ at + 204 ⌝ }
+    ensures { λ r. ⌜ r ≤ at + acceptedRoom ⌝ }
 {
     let identity = bodies::read_identity(body_of(image, 1));
     let pressure_set = sets::read_set(body_of(image, 2));
@@ -79,9 +84,9 @@ fn put_accepted(page: &mut [u8], at: usize, image: &[u8]) -> usize
 }
 
 fn put_level(page: &mut [u8], at: usize, level: u32, image: &[u8]) -> usize
-    requires { ⌜ at + 230 ≤ length (now page) ⌝ }
+    requires { ⌜ at + levelRoom ≤ length (now page) ⌝ }
     ensures { λ r. ⌜ Printed at (levelLine level (now (image .entry))) (now (page .entry)) r (now (page .exit)) ⌝ }
-    ensures { λ r. ⌜ r ≤ at + 230 ⌝ }
+    ensures { λ r. ⌜ r ≤ at + levelRoom ⌝ }
 {
     let end = put_field(page, at, b"level ", level as u64);
     let verdict = panel::verdict(image, level);
@@ -91,21 +96,36 @@ fn put_level(page: &mut [u8], at: usize, level: u32, image: &[u8]) -> usize
     }
 }
 
+// The line of each level, from level 1 on.
+fn put_levels(page: &mut [u8], image: &[u8]) -> usize
+    requires { ⌜ pageRoom ≤ length (now page) ⌝ }
+    ensures { λ r. ⌜ Printed 0 (levelLines lastLevel (now (image .entry))) (now (page .entry)) r (now (page .exit)) ⌝ }
+    ensures { λ r. ⌜ r ≤ pageRoom ⌝ }
+{
+    let mut at: usize = 0;
+    let mut level: u32 = 0;
+    while level < LAST_LEVEL {
+        level += 1;
+        at = put_level(page, at, level, image);
+    }
+    at
+}
+
 fn put_text_refused(page: &mut [u8], refusal: Refusal) -> usize
-    requires { ⌜ 55 ≤ length (now page) ⌝ }
+    requires { ⌜ textRefusedRoom ≤ length (now page) ⌝ }
     ensures { λ r. ⌜ Printed 0 (textRefused refusal) (now (page .entry)) r (now (page .exit)) ⌝ }
-    ensures { λ r. ⌜ r ≤ 55 ⌝ }
+    ensures { λ r. ⌜ r ≤ textRefusedRoom ⌝ }
 {
     let end = put(page, 0, b"text");
     put_refused(page, end, refusal)
 }
 
 pub fn put_page(page: &mut [u8], given: &[u8]) -> usize
-    requires { ⌜ 460 ≤ length (now page) ⌝ }
+    requires { ⌜ pageRoom ≤ length (now page) ⌝ }
     ensures { λ r. ⌜ Printed 0 (pageOf (now (given .entry))) (now (page .entry)) r (now (page .exit)) ⌝ }
-    ensures { λ r. ⌜ r ≤ 460 ⌝ }
+    ensures { λ r. ⌜ r ≤ pageRoom ⌝ }
 {
-    if 65536 < given.len() {
+    if LONGEST_SHOWN_TEXT < given.len() {
         return put_text_refused(
             page,
             Refusal {
@@ -114,14 +134,10 @@ pub fn put_page(page: &mut [u8], given: &[u8]) -> usize
             },
         );
     }
-    let mut image = [0u8; 4096];
-    let told = hexread::read(given, &mut image);
-    match told {
-        Filled::Length(length) => {
-            let read = numbers::slices::part(&image, 0, length);
-            let first = put_level(page, 0, 1, read);
-            put_level(page, first, 2, read)
-        }
+    let mut image = [0u8; LARGEST_IMAGE];
+    let answer = hexread::read(given, &mut image);
+    match answer {
+        Filled::Length(length) => put_levels(page, numbers::slices::part(&image, 0, length)),
         Filled::Refused(refusal) => put_text_refused(page, refusal),
     }
 }
