@@ -20,7 +20,7 @@ use Rattle.panel.specs.Verdict.{verdictOf}
 use Rattle.display.specs.Words.{field, twoDigits, fieldRoom, twoDigitsRoom}
 
 -- a refusal: its number and its detail
-abbrev pub refusedWords : Refusal → List ℕ
+unfoldable pub refusedWords : Refusal → List ℕ
 refusedWords r = field (characters " refused ") (r .number) ++ field (characters " ") (r .detail) ++ characters "\n"
 
 abbrev pub refusedRoom : ℕ
@@ -28,38 +28,36 @@ refusedRoom = fieldRoom (characters " refused ") + fieldRoom (characters " ") + 
 
 -- ---- an accepted image
 
-abbrev pub identityWords : Identity → List ℕ
+unfoldable pub identityWords : Identity → List ℕ
 identityWords i = field (characters " serial ") (i .serial) ++ field (characters " date ") (i .year) ++ twoDigits (i .month) ++ twoDigits (i .day)
 
 abbrev pub identityRoom : ℕ
 identityRoom = fieldRoom (characters " serial ") + fieldRoom (characters " date ") + twoDigitsRoom + twoDigitsRoom
 
 -- the orders NP and NT of a set
-abbrev pub orderWords : List ℕ → Set → List ℕ
+unfoldable pub orderWords : List ℕ → Set → List ℕ
 orderWords words set = field words (set .pressure .order) ++ field (characters " ") (set .temperature .order)
 
 abbrev pub orderRoom : List ℕ → ℕ
 orderRoom words = fieldRoom words + fieldRoom (characters " ")
 
-abbrev pub setsWords : (pressure temperature : Set) → List ℕ
-setsWords pressure temperature = orderWords (characters " pressure ") pressure ++ orderWords (characters " temperature ") temperature ++ characters "\n"
+unfoldable pub acceptedWords : Identity → (pressure temperature : Set) → List ℕ
+acceptedWords identity pressure temperature =
+    identityWords identity ++ orderWords (characters " pressure ") pressure ++ orderWords (characters " temperature ") temperature ++ characters "\n"
 
-abbrev pub setsRoom : ℕ
-setsRoom = orderRoom (characters " pressure ") + orderRoom (characters " temperature ") + 1
+abbrev pub acceptedRoom : ℕ
+acceptedRoom = identityRoom + orderRoom (characters " pressure ") + orderRoom (characters " temperature ") + 1
 
 abbrev bodyFound : (image : List ℕ) (kind : ℕ) → List ℕ
 bodyFound image kind = orElse [] (found image kind)
 
-abbrev pub acceptedWords : (image : List ℕ) → List ℕ
-acceptedWords image = identityWords (identityOf (bodyFound image 1)) ++ setsWords (setOf (bodyFound image 2)) (setOf (bodyFound image 3))
-
-abbrev pub acceptedRoom : ℕ
-acceptedRoom = identityRoom + setsRoom
+unfoldable pub imageWords : (image : List ℕ) → List ℕ
+imageWords image = acceptedWords (identityOf (bodyFound image 1)) (setOf (bodyFound image 2)) (setOf (bodyFound image 3))
 
 -- ---- the page
 
 abbrev verdictWords : Verdict → (image : List ℕ) → List ℕ
-verdictWords Accepted image = acceptedWords image
+verdictWords Accepted image = imageWords image
 verdictWords (Refused r) image = refusedWords r
 
 unfoldable pub levelLine : (level : ℕ) (image : List ℕ) → List ℕ
@@ -74,7 +72,7 @@ unfoldable pub levelLines : (levels : ℕ) (image : List ℕ) → List ℕ
 levelLines zero image = []
 levelLines (suc before) image = levelLines before image ++ levelLine (suc before) image
 
-abbrev pub textRefused : Refusal → List ℕ
+unfoldable pub textRefused : Refusal → List ℕ
 textRefused r = characters "text" ++ refusedWords r
 
 abbrev pub textRefusedRoom : ℕ

@@ -30,7 +30,7 @@ use Rattle.sets.specs.Set.{setOf}
 use Rattle.panel.specs.Verdict.{verdictOf}
 use Rattle.panel.specs.LinesLaws.{verdict-leads}
 use Rattle.display.specs.Words.{field, twoDigits}
-use Rattle.display.specs.Page.{refusedWords, identityWords, setsWords, acceptedWords, levelLine, levelRoom, levelLines, textRefused, pageOf}
+use Rattle.display.specs.Page.{refusedWords, identityWords, orderWords, acceptedWords, imageWords, levelLine, levelRoom, levelLines, textRefused, pageOf}
 use Rattle.display.specs.WordsLaws.{Printed, printed-then}
 
 -- ---- a line
@@ -40,41 +40,71 @@ pub verdict-laid : (level : ℕ) (image : List ℕ) (verdict : Verdict)
     → verdict ≡ verdictOf level image → verdict ≡ Accepted → layoutVerdict image ≡ Accepted
 verdict-laid level image verdict e a = verdict-leads level image verdict e a .good
 
+module _ (at a b end : ℕ) (d d₁ d₂ d₃ : List ℕ) where
+  pub refused-printed : (r : Refusal) → Printed at (field (characters " refused ") (r .number)) d a d₁
+      → Printed a (field (characters " ") (r .detail)) d₁ b d₂
+      → Printed b (characters "\n") d₂ end d₃
+      → Printed at (refusedWords r) d end d₃
+  unfolding refusedWords
+  refused-printed r w v u =
+      let number = field (characters " refused ") (r .number) in
+      let detail = field (characters " ") (r .detail) in
+      printed-then at b end (number ++ detail) (characters "\n") d d₂ d₃ (printed-then at a b number detail d d₁ d₂ w v) u
+
+module _ (at a b c end : ℕ) (d d₁ d₂ d₃ d₄ : List ℕ) where
+  pub identity-printed : (i : Identity) (body : List ℕ) → i ≡ identityOf body
+      → Printed at (field (characters " serial ") (i .serial)) d a d₁
+      → Printed a (field (characters " date ") (i .year)) d₁ b d₂
+      → Printed b (twoDigits (i .month)) d₂ c d₃
+      → Printed c (twoDigits (i .day)) d₃ end d₄
+      → Printed at (identityWords (identityOf body)) d end d₄
+  unfolding identityWords
+  identity-printed i body e s y m t =
+      let serial = field (characters " serial ") (i .serial) in
+      let year = field (characters " date ") (i .year) in
+      let dated = printed-then at a b serial year d d₁ d₂ s y in
+      let monthly = printed-then at b c (serial ++ year) (twoDigits (i .month)) d d₂ d₃ dated m in
+      rw (← e) (printed-then at c end (serial ++ year ++ twoDigits (i .month)) (twoDigits (i .day)) d d₃ d₄ monthly t)
+
+  pub image-printed : (image first second third : RefT (List ℕ)) → Found image first 1 → Found image second 2 → Found image third 3
+      → Printed at (identityWords (identityOf (now first))) d a d₁
+      → Printed a (orderWords (characters " pressure ") (setOf (now second))) d₁ b d₂
+      → Printed b (orderWords (characters " temperature ") (setOf (now third))) d₂ c d₃
+      → Printed c (characters "\n") d₃ end d₄
+      → Printed at (imageWords (now image)) d end d₄
+  unfolding imageWords acceptedWords
+  image-printed image first second third f g h w v u n =
+      let identity = identityWords (identityOf (now first)) in
+      let pressure = orderWords (characters " pressure ") (setOf (now second)) in
+      let temperature = orderWords (characters " temperature ") (setOf (now third)) in
+      let one = printed-then at a b identity pressure d d₁ d₂ w v in
+      let two = printed-then at b c (identity ++ pressure) temperature d d₂ d₃ one u in
+      rw (← f .holds, ← g .holds, ← h .holds) (printed-then at c end (identity ++ pressure ++ temperature) (characters "\n") d d₃ d₄ two n)
+
 module _ (at m end : ℕ) (d d₁ d₂ : List ℕ) where
-  pub accepted-printed : (image first second third : RefT (List ℕ)) (identity : Identity) (p t : Set)
-      → Found image first 1 → identity ≡ identityOf (now first)
-      → Found image second 2 → p ≡ setOf (now second)
-      → Found image third 3 → t ≡ setOf (now third)
-      → Printed at (identityWords identity) d m d₁ → Printed m (setsWords p t) d₁ end d₂ → Printed at (acceptedWords (now image)) d end d₂
-  accepted-printed image first second third identity p t f i g j h k w v =
-      let one = i ∙ ap identityOf (f .holds) in
-      let two = j ∙ ap setOf (g .holds) in
-      let three = k ∙ ap setOf (h .holds) in
-      rw (← one, ← two, ← three) (printed-then at m end (identityWords identity) (setsWords p t) d d₁ d₂ w v)
+  pub orders-printed : (set : Set) (words body : List ℕ) → set ≡ setOf body
+      → Printed at (field words (set .pressure .order)) d m d₁
+      → Printed m (field (characters " ") (set .temperature .order)) d₁ end d₂
+      → Printed at (orderWords words (setOf body)) d end d₂
+  unfolding orderWords
+  orders-printed set words body e w v =
+      rw (← e) (printed-then at m end (field words (set .pressure .order)) (field (characters " ") (set .temperature .order)) d d₁ d₂ w v)
+
+  pub text-refused-printed : (r : Refusal) → Printed at (characters "text") d m d₁ → Printed m (refusedWords r) d₁ end d₂
+      → Printed at (textRefused r) d end d₂
+  unfolding textRefused
+  text-refused-printed r w v = printed-then at m end (characters "text") (refusedWords r) d d₁ d₂ w v
 
   module _ (level : ℕ) (image : List ℕ) (verdict : Verdict) (e : verdict ≡ verdictOf level image) where
     pub level-accepted : Printed at (field (characters "level ") level) d m d₁
-        → verdict ≡ Accepted → Printed m (acceptedWords image) d₁ end d₂ → Printed at (levelLine level image) d end d₂
+        → verdict ≡ Accepted → Printed m (imageWords image) d₁ end d₂ → Printed at (levelLine level image) d end d₂
     unfolding levelLine
-    level-accepted w a v = rw (← e, a) (printed-then at m end (field (characters "level ") level) (acceptedWords image) d d₁ d₂ w v)
+    level-accepted w a v = rw (← e, a) (printed-then at m end (field (characters "level ") level) (imageWords image) d d₁ d₂ w v)
 
     pub level-refused : Printed at (field (characters "level ") level) d m d₁
         → (r : Refusal) → verdict ≡ NotAccepted r → Printed m (refusedWords r) d₁ end d₂ → Printed at (levelLine level image) d end d₂
     unfolding levelLine
     level-refused w r a v = rw (← e, a) (printed-then at m end (field (characters "level ") level) (refusedWords r) d d₁ d₂ w v)
-
-module _ (at a b c end : ℕ) (d d₁ d₂ d₃ d₄ : List ℕ) (i : Identity) where
-  pub identity-printed : Printed at (field (characters " serial ") (i .serial)) d a d₁
-      → Printed a (field (characters " date ") (i .year)) d₁ b d₂
-      → Printed b (twoDigits (i .month)) d₂ c d₃
-      → Printed c (twoDigits (i .day)) d₃ end d₄
-      → Printed at (identityWords i) d end d₄
-  identity-printed s y m t =
-      let serial = field (characters " serial ") (i .serial) in
-      let year = field (characters " date ") (i .year) in
-      let dated = printed-then at a b serial year d d₁ d₂ s y in
-      let monthly = printed-then at b c (serial ++ year) (twoDigits (i .month)) d d₂ d₃ dated m in
-      printed-then at c end (serial ++ year ++ twoDigits (i .month)) (twoDigits (i .day)) d d₃ d₄ monthly t
 
 -- ---- the lines of all levels
 
@@ -120,10 +150,10 @@ module _ (end : ℕ) (given d d′ : List ℕ) where
     refusal-printed r e p =
         rw (le-leb (length given) longestShownText h, ← room, refused-of (readText (length before) given) before after answer f r e) p
 
-    pub image-printed : (n : ℕ) (image : List ℕ) → answer ≡ Length n → image ≡ take n (drop 0 after)
+    pub read-printed : (n : ℕ) (image : List ℕ) → answer ≡ Length n → image ≡ take n (drop 0 after)
         → Printed 0 (levelLines lastLevel image) d end d′ → Printed 0 (pageOf given) d end d′
     unfolding pageOf
-    image-printed n image e i p =
+    read-printed n image e i p =
         rw (le-leb (length given) longestShownText h, ← room, result-of (readText (length before) given) before after answer f n e)
         (rw i at p)
 

@@ -18,11 +18,11 @@ abbrev pub decimal : ℕ → List ℕ
 decimal n = decimalIn (suc n) n
 
 -- words, and a number after them
-abbrev pub field : List ℕ → ℕ → List ℕ
+unfoldable pub field : List ℕ → ℕ → List ℕ
 field words n = words ++ decimal n
 
 -- month or day after a hyphen, in two digits
-abbrev pub twoDigits : ℕ → List ℕ
+unfoldable pub twoDigits : ℕ → List ℕ
 twoDigits n = cond (ltb n 10) (field (characters "-0") n) (field (characters "-") n)
 
 -- ---- the room that these take on a page

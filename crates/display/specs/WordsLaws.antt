@@ -99,12 +99,15 @@ module _ (k n : ℕ) (out : List ℕ) (c : Counts k out) (f : Fewest 10 1 n k) (
   pub field-printed : (at m end : ℕ) (words d d₁ d₂ : List ℕ)
       → take k out ≡ digits 10 k n → Printed at words d m d₁ → Printed m (take k out) d₁ end d₂
       → Printed at (field words n) d end d₂ × (end ≤ at + fieldRoom words)
+  unfolding field
   field-printed at m end words d d₁ d₂ e p q =
       (printed-then at m end words (decimal n) d d₁ d₂ p (rw (← fewest-decimal k n f, ← e) q), omega (arith, p .ends, q .ends, digits-fit))
 
 module _ (at n end : ℕ) (d d′ : List ℕ) where
   pub one-digit-printed : n < 10 → Printed at (field (characters "-0") n) d end d′ → Printed at (twoDigits n) d end d′
+  unfolding twoDigits
   one-digit-printed h p = rw (lt-ltb n 10 h) p
 
   pub more-digits-printed : 10 ≤ n → Printed at (field (characters "-") n) d end d′ → Printed at (twoDigits n) d end d′
+  unfolding twoDigits
   more-digits-printed h p = rw (le-ltb n 10 h) p

@@ -4,21 +4,21 @@ ghost use Prim.Native.Nat.{_+_, _≤_};
 ghost use lib.ListN.{length};
 ghost use Rattle.image.specs.Layout.{layoutVerdict};
 ghost use Rattle.image.specs.Find.{Found};
+ghost use Rattle.bodies.specs.Identity.{identityOf};
+ghost use Rattle.sets.specs.Set.{setOf};
 ghost use Rattle.limits.specs.Limits.{lastLevel};
-ghost use Rattle.display.specs.Page.{refusedWords, identityWords, orderWords, setsWords, acceptedWords, levelLine, levelLines, textRefused, pageOf};
-ghost use Rattle.display.specs.Page.{refusedRoom, identityRoom, orderRoom, setsRoom, acceptedRoom, levelRoom, textRefusedRoom, pageRoom};
+ghost use Rattle.display.specs.Page.{refusedWords, identityWords, orderWords, imageWords, levelLine, levelLines, textRefused, pageOf};
+ghost use Rattle.display.specs.Page.{refusedRoom, identityRoom, orderRoom, acceptedRoom, levelRoom, textRefusedRoom, pageRoom};
 ghost use Rattle.display.specs.WordsLaws.{Printed};
 use crate::words::put;
 use crate::words::put_field;
 use crate::words::put_two_digits;
-use bodies::Identity;
 use limits::LARGEST_IMAGE;
 use limits::LAST_LEVEL;
 use limits::LONGEST_SHOWN_TEXT;
 use refusals::Filled;
 use refusals::Refusal;
 use refusals::Verdict;
-use sets::Set;
 
 fn put_refused(page: &mut [u8], at: usize, refusal: Refusal) -> usize
     requires { ⌜ at + refusedRoom ≤ length (now page) ⌝ }
@@ -30,36 +30,30 @@ fn put_refused(page: &mut [u8], at: usize, refusal: Refusal) -> usize
     put(page, detail, b"\n")
 }
 
-fn put_identity(page: &mut [u8], at: usize, identity: Identity) -> usize
+// The body of kind 1: serial and date.
+fn put_identity(page: &mut [u8], at: usize, body: &[u8]) -> usize
     requires { ⌜ at + identityRoom ≤ length (now page) ⌝ }
-    ensures { λ r. ⌜ Printed at (identityWords identity) (now (page .entry)) r (now (page .exit)) ⌝ }
+    ensures { λ r. ⌜ Printed at (identityWords (identityOf (now (body .entry)))) (now (page .entry)) r (now (page .exit)) ⌝ }
     ensures { λ r. ⌜ r ≤ at + identityRoom ⌝ }
 {
+    let identity = bodies::read_identity(body);
     let serial = put_field(page, at, b" serial ", identity.serial as u64);
     let year = put_field(page, serial, b" date ", identity.year as u64);
     let month = put_two_digits(page, year, identity.month);
     put_two_digits(page, month, identity.day)
 }
 
-fn put_orders(page: &mut [u8], at: usize, words: &[u8], set: Set) -> usize
+// The body of kind 2 or 3: the orders NP and NT.
+fn put_orders(page: &mut [u8], at: usize, words: &[u8], body: &[u8]) -> usize
     requires { ⌜ at + orderRoom (now words) ≤ length (now page) ⌝ }
-    ensures { λ r. ⌜ Printed at (orderWords (now (words .entry)) set) (now (page .entry)) r (now (page .exit)) ⌝ }
+    ensures { λ r. ⌜ Printed at (orderWords (now (words .entry)) (setOf (now (body .entry)))) (now (page .entry)) r (now (page .exit)) ⌝ }
     ensures { λ r. ⌜ r ≤ at + orderRoom (now (words .entry)) ⌝ }
 {
+    let set = sets::read_set(body);
     let by_pressure = set.pressure;
     let by_temperature = set.temperature;
     let pressure = put_field(page, at, words, by_pressure.order as u64);
     put_field(page, pressure, b" ", by_temperature.order as u64)
-}
-
-fn put_sets(page: &mut [u8], at: usize, pressure_set: Set, temperature_set: Set) -> usize
-    requires { ⌜ at + setsRoom ≤ length (now page) ⌝ }
-    ensures { λ r. ⌜ Printed at (setsWords «pressure_set» «temperature_set») (now (page .entry)) r (now (page .exit)) ⌝ }
-    ensures { λ r. ⌜ r ≤ at + setsRoom ⌝ }
-{
-    let pressure = put_orders(page, at, b" pressure ", pressure_set);
-    let temperature = put_orders(page, pressure, b" temperature ", temperature_set);
-    put(page, temperature, b"\n")
 }
 
 // The body of a kind in an image that a panel has judged: the layout is not judged again, as it would be by `find`.
@@ -70,17 +64,16 @@ fn body_of(image: &[u8], kind: u32) -> &[u8]
     finder::part_at(image, finder::stated(image, kind))
 }
 
-fn put_accepted(page: &mut [u8], at: usize, image: &[u8]) -> usize
+fn put_image(page: &mut [u8], at: usize, image: &[u8]) -> usize
     requires { ⌜ at + acceptedRoom ≤ length (now page) ⌝ }
     requires { ⌜ layoutVerdict (now image) ≡ Verdict.Accepted ⌝ }
-    ensures { λ r. ⌜ Printed at (acceptedWords (now (image .entry))) (now (page .entry)) r (now (page .exit)) ⌝ }
+    ensures { λ r. ⌜ Printed at (imageWords (now (image .entry))) (now (page .entry)) r (now (page .exit)) ⌝ }
     ensures { λ r. ⌜ r ≤ at + acceptedRoom ⌝ }
 {
-    let identity = bodies::read_identity(body_of(image, 1));
-    let pressure_set = sets::read_set(body_of(image, 2));
-    let temperature_set = sets::read_set(body_of(image, 3));
-    let end = put_identity(page, at, identity);
-    put_sets(page, end, pressure_set, temperature_set)
+    let identity = put_identity(page, at, body_of(image, 1));
+    let pressure = put_orders(page, identity, b" pressure ", body_of(image, 2));
+    let temperature = put_orders(page, pressure, b" temperature ", body_of(image, 3));
+    put(page, temperature, b"\n")
 }
 
 fn put_level(page: &mut [u8], at: usize, level: u32, image: &[u8]) -> usize
@@ -91,7 +84,7 @@ fn put_level(page: &mut [u8], at: usize, level: u32, image: &[u8]) -> usize
     let end = put_field(page, at, b"level ", level as u64);
     let verdict = panel::verdict(image, level);
     match verdict {
-        Verdict::Accepted => put_accepted(page, end, image),
+        Verdict::Accepted => put_image(page, end, image),
         Verdict::Refused(refusal) => put_refused(page, end, refusal),
     }
 }

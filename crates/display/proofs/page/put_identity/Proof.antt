@@ -3,6 +3,9 @@ use Rattle.display.specs.PageLaws.{identity-printed}
 use Rattle.display.proofs.page.put_identity.Statement.{statement}
 use Rattle.display.proofs.page.put_identity.Tie as tie
 
+read-identity-requires : tie.Need-read-identity-requires
+read-identity-requires c κs = search needs
+
 slice-aggregate-put-field : tie.Need-slice-aggregate-put-field
 slice-aggregate-put-field c = search needs
 
@@ -37,6 +40,7 @@ pub put-identity-spec : {M : Type 1} → statement M
 put-identity-spec =
     tie.close
     (tie.spec
+    read-identity-requires
     slice-aggregate-put-field
     cast-put-field
     put-field-requires

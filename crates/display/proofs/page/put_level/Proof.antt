@@ -15,8 +15,8 @@ verdict-requires c κs = search needs
 enum-told : tie.Need-enum-told
 enum-told c = search needs
 
-put-accepted-requires : tie.Need-put-accepted-requires
-put-accepted-requires c κs = (search needs, search (needs, verdict-laid))
+put-image-requires : tie.Need-put-image-requires
+put-image-requires c κs = (search needs, search (needs, verdict-laid))
 
 enum-known-verdict : tie.Need-enum-known-verdict
 enum-known-verdict c = search needs
@@ -44,7 +44,7 @@ put-level-spec =
     put-field-requires
     verdict-requires
     enum-told
-    put-accepted-requires
+    put-image-requires
     enum-known-verdict
     put-refused-requires
     same-length

@@ -1,7 +1,10 @@
 use borrow.Author.Needs.{needs}
-use Rattle.display.specs.WordsLaws.{printed-then}
+use Rattle.display.specs.PageLaws.{orders-printed}
 use Rattle.display.proofs.page.put_orders.Statement.{statement}
 use Rattle.display.proofs.page.put_orders.Tie as tie
+
+read-set-requires : tie.Need-read-set-requires
+read-set-requires c κs = search needs
 
 cast-put-field : tie.Need-cast-put-field
 cast-put-field c = search needs
@@ -22,13 +25,13 @@ same-length : tie.Need-same-length
 same-length c = search needs
 
 returns : tie.Need-returns
-returns c =
-    (printed-then _ _ _ _ _ _ _ _ (c .before .before .before .before .before .before .before .before .put-field .ensures .0) (c .before .before .put-field2 .ensures .0), search needs)
+returns c = search (needs, orders-printed)
 
 pub put-orders-spec : {M : Type 1} → statement M
 put-orders-spec =
     tie.close
     (tie.spec
+    read-set-requires
     cast-put-field
     put-field-requires
     slice-aggregate-put-field

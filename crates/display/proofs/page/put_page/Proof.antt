@@ -1,5 +1,5 @@
 use borrow.Author.Needs.{needs}
-use Rattle.display.specs.PageLaws.{too-long-printed, refusal-printed, image-printed}
+use Rattle.display.specs.PageLaws.{too-long-printed, refusal-printed, read-printed}
 use Rattle.display.proofs.page.put_page.Statement.{statement}
 use Rattle.display.proofs.page.put_page.Tie as tie
 
@@ -40,7 +40,7 @@ same-length-2 : tie.Need-same-length-2
 same-length-2 c = search needs
 
 returns-2 : tie.Need-returns-2
-returns-2 c = search (needs, image-printed)
+returns-2 c = search (needs, read-printed)
 
 same-length-3 : tie.Need-same-length-3
 same-length-3 c = search needs

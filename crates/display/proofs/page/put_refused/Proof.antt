@@ -1,9 +1,7 @@
 use borrow.Author.Needs.{needs}
-use Rattle.display.specs.WordsLaws.{printed-then}
+use Rattle.display.specs.PageLaws.{refused-printed}
 use Rattle.display.proofs.page.put_refused.Statement.{statement}
 use Rattle.display.proofs.page.put_refused.Tie as tie
-
-ruleset laws = (needs, printed-then)
 
 slice-aggregate-put-field : tie.Need-slice-aggregate-put-field
 slice-aggregate-put-field c = search needs
@@ -30,7 +28,7 @@ same-length : tie.Need-same-length
 same-length c = search needs
 
 returns : tie.Need-returns
-returns c = search laws
+returns c = search (needs, refused-printed)
 
 pub put-refused-spec : {M : Type 1} → statement M
 put-refused-spec =

@@ -1,9 +1,7 @@
 use borrow.Author.Needs.{needs}
-use Rattle.display.specs.WordsLaws.{printed-then}
+use Rattle.display.specs.PageLaws.{text-refused-printed}
 use Rattle.display.proofs.page.put_text_refused.Statement.{statement}
 use Rattle.display.proofs.page.put_text_refused.Tie as tie
-
-ruleset laws = (needs, printed-then)
 
 slice-aggregate-put : tie.Need-slice-aggregate-put
 slice-aggregate-put c = search needs
@@ -18,7 +16,7 @@ same-length : tie.Need-same-length
 same-length c = search needs
 
 returns : tie.Need-returns
-returns c = search laws
+returns c = search (needs, text-refused-printed)
 
 pub put-text-refused-spec : {M : Type 1} → statement M
 put-text-refused-spec =
