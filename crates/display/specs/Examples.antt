@@ -13,11 +13,11 @@ use Rattle.hextext.specs.Written.{hexDigit, spell, checksum, headAndData, recor
 use Rattle.hexformat.specs.ComputedBytes.{computed-bytes}
 use Rattle.hexformat.specs.RoundTrip.{written-reads-back}
 use Rattle.panel.specs.Examples.{image, level-1, level-2, unknown-127}
-use Rattle.display.specs.Words.{decimalIn, field, twoDigits}
+use Rattle.display.specs.Words.{decimalIn, field, pair, twoDigits}
 use Rattle.display.specs.Page.{refusedWords, identityWords, orderWords, acceptedWords, levelLine, levelLines, textRefused, pageOf}
 
 pub contents-only : levelLines lastLevel (image 200) ≡ characters "level 1 refused 10 1\nlevel 2 refused 10 1\n"
-unfolding levelLines levelLine refusedWords field decimalIn
+unfolding levelLines levelLine refusedWords pair field decimalIn
 contents-only = rw (level-1, level-2)
 
 -- the whole page of the text in document 01
@@ -36,11 +36,11 @@ unfolding pageOf
 document-page = rw text-read contents-only
 
 pub kind-127 : levelLine 1 (image 127) ≡ characters "level 1 refused 9 127\n"
-unfolding levelLine refusedWords field decimalIn
+unfolding levelLine refusedWords pair field decimalIn
 kind-127 = rw unknown-127
 
 pub too-long : textRefused (refusal 4 0) ≡ characters "text refused 4 0\n"
-unfolding textRefused refusedWords field decimalIn
+unfolding textRefused refusedWords pair field decimalIn
 too-long = refl
 
 pub accepted-shown :
@@ -49,5 +49,5 @@ pub accepted-shown :
     (record { pressure = record { order = 3; multiplier = 1; offset = 0 }; temperature = record { order = 3; multiplier = 1; offset = 0 } })
     (record { pressure = record { order = 0; multiplier = 0; offset = 0 }; temperature = record { order = 3; multiplier = 1; offset = 0 } })
     ≡ characters " serial 7 date 2003-09-08 pressure 3 3 temperature 0 3\n"
-unfolding acceptedWords identityWords orderWords twoDigits field decimalIn
+unfolding acceptedWords identityWords orderWords pair twoDigits field decimalIn
 accepted-shown = refl

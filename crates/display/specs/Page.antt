@@ -17,14 +17,14 @@ use Rattle.bodies.specs.Identity.{identityOf}
 use Rattle.sets.specs.declared.Set.{Set}
 use Rattle.sets.specs.Set.{setOf}
 use Rattle.panel.specs.Verdict.{verdictOf}
-use Rattle.display.specs.Words.{field, twoDigits, fieldRoom, twoDigitsRoom}
+use Rattle.display.specs.Words.{field, pair, twoDigits, fieldRoom, pairRoom, twoDigitsRoom}
 
 -- a refusal: its number and its detail
 unfoldable pub refusedWords : Refusal → List ℕ
-refusedWords r = field (characters " refused ") (r .number) ++ field (characters " ") (r .detail) ++ characters "\n"
+refusedWords r = pair (characters " refused ") (r .number) (r .detail) ++ characters "\n"
 
 abbrev pub refusedRoom : ℕ
-refusedRoom = fieldRoom (characters " refused ") + fieldRoom (characters " ") + 1
+refusedRoom = pairRoom (characters " refused ") + 1
 
 -- ---- an accepted image
 
@@ -36,17 +36,14 @@ identityRoom = fieldRoom (characters " serial ") + fieldRoom (characters " date 
 
 -- the orders NP and NT of a set
 unfoldable pub orderWords : List ℕ → Set → List ℕ
-orderWords words set = field words (set .pressure .order) ++ field (characters " ") (set .temperature .order)
-
-abbrev pub orderRoom : List ℕ → ℕ
-orderRoom words = fieldRoom words + fieldRoom (characters " ")
+orderWords words set = pair words (set .pressure .order) (set .temperature .order)
 
 unfoldable pub acceptedWords : Identity → (pressure temperature : Set) → List ℕ
 acceptedWords identity pressure temperature =
     identityWords identity ++ orderWords (characters " pressure ") pressure ++ orderWords (characters " temperature ") temperature ++ characters "\n"
 
 abbrev pub acceptedRoom : ℕ
-acceptedRoom = identityRoom + orderRoom (characters " pressure ") + orderRoom (characters " temperature ") + 1
+acceptedRoom = identityRoom + pairRoom (characters " pressure ") + pairRoom (characters " temperature ") + 1
 
 abbrev bodyFound : (image : List ℕ) (kind : ℕ) → List ℕ
 bodyFound image kind = orElse [] (found image kind)

@@ -11,7 +11,6 @@ use lib.ListN.{length, take, drop, replicate, length-append, length-take}
 use Rattle.io.specs.Counts.{Counts}
 use Rattle.limits.specs.Limits.{largestImage, lastLevel, longestShownText}
 use Rattle.laws.specs.Characters.{characters}
-use Rattle.laws.specs.Wrote.{wrote-nothing}
 use Rattle.numbers.specs.Slices.{clearedFrom}
 use Rattle.refusals.specs.declared.Refusal.{Refusal}
 use Rattle.refusals.specs.declared.Verdict.{Verdict}
@@ -29,9 +28,9 @@ use Rattle.sets.specs.declared.Set.{Set}
 use Rattle.sets.specs.Set.{setOf}
 use Rattle.panel.specs.Verdict.{verdictOf}
 use Rattle.panel.specs.LinesLaws.{verdict-leads}
-use Rattle.display.specs.Words.{field, twoDigits}
+use Rattle.display.specs.Words.{field, pair, twoDigits}
 use Rattle.display.specs.Page.{refusedWords, identityWords, orderWords, acceptedWords, imageWords, levelLine, levelRoom, levelLines, textRefused, pageOf}
-use Rattle.display.specs.WordsLaws.{Printed, printed-then}
+use Rattle.display.specs.WordsLaws.{Printed, printed-nothing, printed-then}
 
 -- ---- a line
 
@@ -39,17 +38,6 @@ use Rattle.display.specs.WordsLaws.{Printed, printed-then}
 pub verdict-laid : (level : ℕ) (image : List ℕ) (verdict : Verdict)
     → verdict ≡ verdictOf level image → verdict ≡ Accepted → layoutVerdict image ≡ Accepted
 verdict-laid level image verdict e a = verdict-leads level image verdict e a .good
-
-module _ (at a b end : ℕ) (d d₁ d₂ d₃ : List ℕ) where
-  pub refused-printed : (r : Refusal) → Printed at (field (characters " refused ") (r .number)) d a d₁
-      → Printed a (field (characters " ") (r .detail)) d₁ b d₂
-      → Printed b (characters "\n") d₂ end d₃
-      → Printed at (refusedWords r) d end d₃
-  unfolding refusedWords
-  refused-printed r w v u =
-      let number = field (characters " refused ") (r .number) in
-      let detail = field (characters " ") (r .detail) in
-      printed-then at b end (number ++ detail) (characters "\n") d d₂ d₃ (printed-then at a b number detail d d₁ d₂ w v) u
 
 module _ (at a b c end : ℕ) (d d₁ d₂ d₃ d₄ : List ℕ) where
   pub identity-printed : (i : Identity) (body : List ℕ) → i ≡ identityOf body
@@ -82,13 +70,10 @@ module _ (at a b c end : ℕ) (d d₁ d₂ d₃ d₄ : List ℕ) where
       rw (← f .holds, ← g .holds, ← h .holds) (printed-then at c end (identity ++ pressure ++ temperature) (characters "\n") d d₃ d₄ two n)
 
 module _ (at m end : ℕ) (d d₁ d₂ : List ℕ) where
-  pub orders-printed : (set : Set) (words body : List ℕ) → set ≡ setOf body
-      → Printed at (field words (set .pressure .order)) d m d₁
-      → Printed m (field (characters " ") (set .temperature .order)) d₁ end d₂
-      → Printed at (orderWords words (setOf body)) d end d₂
-  unfolding orderWords
-  orders-printed set words body e w v =
-      rw (← e) (printed-then at m end (field words (set .pressure .order)) (field (characters " ") (set .temperature .order)) d d₁ d₂ w v)
+  pub refused-printed : (r : Refusal) → Printed at (pair (characters " refused ") (r .number) (r .detail)) d m d₁
+      → Printed m (characters "\n") d₁ end d₂ → Printed at (refusedWords r) d end d₂
+  unfolding refusedWords
+  refused-printed r w v = printed-then at m end (pair (characters " refused ") (r .number) (r .detail)) (characters "\n") d d₁ d₂ w v
 
   pub text-refused-printed : (r : Refusal) → Printed at (characters "text") d m d₁ → Printed m (refusedWords r) d₁ end d₂
       → Printed at (textRefused r) d end d₂
@@ -106,6 +91,11 @@ module _ (at m end : ℕ) (d d₁ d₂ : List ℕ) where
     unfolding levelLine
     level-refused w r a v = rw (← e, a) (printed-then at m end (field (characters "level ") level) (refusedWords r) d d₁ d₂ w v)
 
+pub orders-printed : (at end : ℕ) (d d′ : List ℕ) (set : Set) (words body : List ℕ) → set ≡ setOf body
+    → Printed at (pair words (set .pressure .order) (set .temperature .order)) d end d′ → Printed at (orderWords words (setOf body)) d end d′
+unfolding orderWords
+orders-printed at end d d′ set words body e w = rw (← e) w
+
 -- ---- the lines of all levels
 
 -- the loop's invariant: the lines of the first `level` levels are on the page
@@ -118,7 +108,7 @@ pub record LevelsPrinted (image d₀ d : List ℕ) (at level : ℕ) : Type 0 whe
 pub levels-first : (image d : List ℕ) → LevelsPrinted image d d 0 0
 unfolding levelLines
 levels-first image d =
-    record { within = omega arith; room = omega arith; kept = refl; printed = record { wrote = wrote-nothing 0 d; ends = refl } }
+    record { within = omega arith; room = omega arith; kept = refl; printed = printed-nothing 0 d }
 
 module _ (image d₀ d : List ℕ) (at level : ℕ) (h : LevelsPrinted image d₀ d at level) where
   pub levels-more : (end : ℕ) (d₁ : List ℕ) → level < lastLevel → Printed at (levelLine (level + 1) image) d end d₁

@@ -21,6 +21,10 @@ decimal n = decimalIn (suc n) n
 unfoldable pub field : List ℕ → ℕ → List ℕ
 field words n = words ++ decimal n
 
+-- and a second number after a blank
+unfoldable pub pair : List ℕ → (first second : ℕ) → List ℕ
+pair words first second = field words first ++ field (characters " ") second
+
 -- month or day after a hyphen, in two digits
 unfoldable pub twoDigits : ℕ → List ℕ
 twoDigits n = cond (ltb n 10) (field (characters "-0") n) (field (characters "-") n)
@@ -33,6 +37,9 @@ numberRoom = 20
 
 abbrev pub fieldRoom : List ℕ → ℕ
 fieldRoom words = length words + numberRoom
+
+abbrev pub pairRoom : List ℕ → ℕ
+pairRoom words = fieldRoom words + fieldRoom (characters " ")
 
 abbrev pub twoDigitsRoom : ℕ
 twoDigitsRoom = fieldRoom (characters "-0")

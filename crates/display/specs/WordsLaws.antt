@@ -13,12 +13,15 @@ use Rattle.io.specs.Digits.{glyph, digits, Fewest}
 use Rattle.laws.specs.Cases.{split}
 use Rattle.laws.specs.Characters.{characters}
 use Rattle.laws.specs.Wrote.{Wrote, wrote-nothing, wrote-character, wrote-then}
-use Rattle.display.specs.Words.{digit, decimalIn, decimal, field, twoDigits, numberRoom, fieldRoom}
+use Rattle.display.specs.Words.{digit, decimalIn, decimal, field, pair, twoDigits, numberRoom, fieldRoom}
 
 -- the words were put at `at` of the page d, and end at `end`; d′ is the page then
 pub record Printed (at : ℕ) (words d : List ℕ) (end : ℕ) (d′ : List ℕ) : Type 0 where
   pub wrote : Wrote at words d d′
   pub ends : end ≡ at + length words
+
+pub printed-nothing : (at : ℕ) (d : List ℕ) → Printed at [] d at d
+printed-nothing at d = record { wrote = wrote-nothing at d; ends = omega arith }
 
 pub printed-then : (at m end : ℕ) (p q d d₁ d₂ : List ℕ) → Printed at p d m d₁ → Printed m q d₁ end d₂ → Printed at (p ++ q) d end d₂
 printed-then at m end p q d d₁ d₂ w v =
@@ -102,6 +105,11 @@ module _ (k n : ℕ) (out : List ℕ) (c : Counts k out) (f : Fewest 10 1 n k) (
   unfolding field
   field-printed at m end words d d₁ d₂ e p q =
       (printed-then at m end words (decimal n) d d₁ d₂ p (rw (← fewest-decimal k n f, ← e) q), omega (arith, p .ends, q .ends, digits-fit))
+
+pub pair-printed : (at m end first second : ℕ) (words d d₁ d₂ : List ℕ)
+    → Printed at (field words first) d m d₁ → Printed m (field (characters " ") second) d₁ end d₂ → Printed at (pair words first second) d end d₂
+unfolding pair
+pair-printed at m end first second words d d₁ d₂ = printed-then at m end (field words first) (field (characters " ") second) d d₁ d₂
 
 module _ (at n end : ℕ) (d d′ : List ℕ) where
   pub one-digit-printed : n < 10 → Printed at (field (characters "-0") n) d end d′ → Printed at (twoDigits n) d end d′

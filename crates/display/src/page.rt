@@ -8,10 +8,12 @@ ghost use Rattle.bodies.specs.Identity.{identityOf};
 ghost use Rattle.sets.specs.Set.{setOf};
 ghost use Rattle.limits.specs.Limits.{lastLevel};
 ghost use Rattle.display.specs.Page.{refusedWords, identityWords, orderWords, imageWords, levelLine, levelLines, textRefused, pageOf};
-ghost use Rattle.display.specs.Page.{refusedRoom, identityRoom, orderRoom, acceptedRoom, levelRoom, textRefusedRoom, pageRoom};
+ghost use Rattle.display.specs.Page.{refusedRoom, identityRoom, acceptedRoom, levelRoom, textRefusedRoom, pageRoom};
+ghost use Rattle.display.specs.Words.{pairRoom};
 ghost use Rattle.display.specs.WordsLaws.{Printed};
 use crate::words::put;
 use crate::words::put_field;
+use crate::words::put_pair;
 use crate::words::put_two_digits;
 use limits::LARGEST_IMAGE;
 use limits::LAST_LEVEL;
@@ -25,9 +27,14 @@ fn put_refused(page: &mut [u8], at: usize, refusal: Refusal) -> usize
     ensures { λ r. ⌜ Printed at (refusedWords refusal) (now (page .entry)) r (now (page .exit)) ⌝ }
     ensures { λ r. ⌜ r ≤ at + refusedRoom ⌝ }
 {
-    let number = put_field(page, at, b" refused ", refusal.number as u64);
-    let detail = put_field(page, number, b" ", refusal.detail);
-    put(page, detail, b"\n")
+    let end = put_pair(
+        page,
+        at,
+        b" refused ",
+        refusal.number as u64,
+        refusal.detail,
+    );
+    put(page, end, b"\n")
 }
 
 // The body of kind 1: serial and date.
@@ -45,15 +52,20 @@ fn put_identity(page: &mut [u8], at: usize, body: &[u8]) -> usize
 
 // The body of kind 2 or 3: the orders NP and NT.
 fn put_orders(page: &mut [u8], at: usize, words: &[u8], body: &[u8]) -> usize
-    requires { ⌜ at + orderRoom (now words) ≤ length (now page) ⌝ }
+    requires { ⌜ at + pairRoom (now words) ≤ length (now page) ⌝ }
     ensures { λ r. ⌜ Printed at (orderWords (now (words .entry)) (setOf (now (body .entry)))) (now (page .entry)) r (now (page .exit)) ⌝ }
-    ensures { λ r. ⌜ r ≤ at + orderRoom (now (words .entry)) ⌝ }
+    ensures { λ r. ⌜ r ≤ at + pairRoom (now (words .entry)) ⌝ }
 {
     let set = sets::read_set(body);
     let by_pressure = set.pressure;
     let by_temperature = set.temperature;
-    let pressure = put_field(page, at, words, by_pressure.order as u64);
-    put_field(page, pressure, b" ", by_temperature.order as u64)
+    put_pair(
+        page,
+        at,
+        words,
+        by_pressure.order as u64,
+        by_temperature.order as u64,
+    )
 }
 
 // The body of a kind in an image that a panel has judged: the layout is not judged again, as it would be by `find`.

@@ -1,7 +1,7 @@
 // Each function puts its words at a place of the page, and says where they end.
 ghost use Prim.Native.Nat.{_+_, _≤_};
 ghost use lib.ListN.{length};
-ghost use Rattle.display.specs.Words.{field, twoDigits, fieldRoom, twoDigitsRoom};
+ghost use Rattle.display.specs.Words.{field, pair, twoDigits, fieldRoom, pairRoom, twoDigitsRoom};
 ghost use Rattle.display.specs.WordsLaws.{Printed};
 
 // the digits of a number of 64 bits
@@ -29,6 +29,16 @@ pub fn put_field(page: &mut [u8], at: usize, words: &[u8], n: u64) -> usize
     let mut digits = [0u8; NUMBER_ROOM];
     let count = io::decimal(n, &mut digits);
     put(page, end, &digits[..count])
+}
+
+// Words, a number, a blank, and a second number.
+pub fn put_pair(page: &mut [u8], at: usize, words: &[u8], first: u64, second: u64) -> usize
+    requires { ⌜ at + pairRoom (now words) ≤ length (now page) ⌝ }
+    ensures { λ r. ⌜ Printed at (pair (now (words .entry)) first second) (now (page .entry)) r (now (page .exit)) ⌝ }
+    ensures { λ r. ⌜ r ≤ at + pairRoom (now (words .entry)) ⌝ }
+{
+    let end = put_field(page, at, words, first);
+    put_field(page, end, b" ", second)
 }
 
 // A hyphen, and a number of two digits or more after it.

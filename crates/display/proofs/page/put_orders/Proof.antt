@@ -6,20 +6,14 @@ use Rattle.display.proofs.page.put_orders.Tie as tie
 read-set-requires : tie.Need-read-set-requires
 read-set-requires c κs = search needs
 
-cast-put-field : tie.Need-cast-put-field
-cast-put-field c = search needs
+cast-put-pair : tie.Need-cast-put-pair
+cast-put-pair c = search needs
 
-put-field-requires : tie.Need-put-field-requires
-put-field-requires c κs = search needs
+cast-put-pair-2 : tie.Need-cast-put-pair-2
+cast-put-pair-2 c = search needs
 
-slice-aggregate-put-field : tie.Need-slice-aggregate-put-field
-slice-aggregate-put-field c = search needs
-
-cast-put-field-2 : tie.Need-cast-put-field-2
-cast-put-field-2 c = search needs
-
-put-field-requires-2 : tie.Need-put-field-requires-2
-put-field-requires-2 c κs = search needs
+put-pair-requires : tie.Need-put-pair-requires
+put-pair-requires c κs = search needs
 
 same-length : tie.Need-same-length
 same-length c = search needs
@@ -32,10 +26,8 @@ put-orders-spec =
     tie.close
     (tie.spec
     read-set-requires
-    cast-put-field
-    put-field-requires
-    slice-aggregate-put-field
-    cast-put-field-2
-    put-field-requires-2
+    cast-put-pair
+    cast-put-pair-2
+    put-pair-requires
     same-length
     returns)
