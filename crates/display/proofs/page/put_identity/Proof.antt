@@ -1,3 +1,4 @@
+use native.Mathlib.Omega.{arith}
 use borrow.Author.Needs.{needs}
 use Rattle.display.specs.PageLaws.{identity-printed}
 use Rattle.display.proofs.page.put_identity.Statement.{statement}
@@ -13,7 +14,7 @@ cast-put-field : tie.Need-cast-put-field
 cast-put-field c = search needs
 
 put-field-requires : tie.Need-put-field-requires
-put-field-requires c κs = search needs
+put-field-requires c κs = omega arith
 
 slice-aggregate-put-field-2 : tie.Need-slice-aggregate-put-field-2
 slice-aggregate-put-field-2 c = search needs
@@ -22,19 +23,19 @@ cast-put-field-2 : tie.Need-cast-put-field-2
 cast-put-field-2 c = search needs
 
 put-field-requires-2 : tie.Need-put-field-requires-2
-put-field-requires-2 c κs = search needs
+put-field-requires-2 c κs = omega arith
 
 put-two-digits-requires : tie.Need-put-two-digits-requires
-put-two-digits-requires c κs = search needs
+put-two-digits-requires c κs = omega arith
 
 put-two-digits-requires-2 : tie.Need-put-two-digits-requires-2
-put-two-digits-requires-2 c κs = search needs
+put-two-digits-requires-2 c κs = omega arith
 
 same-length : tie.Need-same-length
 same-length c = search needs
 
 returns : tie.Need-returns
-returns c = search (needs, identity-printed)
+returns c = (search identity-printed, omega arith)
 
 pub put-identity-spec : {M : Type 1} → statement M
 put-identity-spec =

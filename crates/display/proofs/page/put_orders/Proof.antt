@@ -1,3 +1,4 @@
+use native.Mathlib.Omega.{arith}
 use borrow.Author.Needs.{needs}
 use Rattle.display.specs.PageLaws.{orders-printed}
 use Rattle.display.proofs.page.put_orders.Statement.{statement}
@@ -13,13 +14,13 @@ cast-put-pair-2 : tie.Need-cast-put-pair-2
 cast-put-pair-2 c = search needs
 
 put-pair-requires : tie.Need-put-pair-requires
-put-pair-requires c κs = search needs
+put-pair-requires c κs = omega arith
 
 same-length : tie.Need-same-length
 same-length c = search needs
 
 returns : tie.Need-returns
-returns c = search (needs, orders-printed)
+returns c = (search orders-printed, omega arith)
 
 pub put-orders-spec : {M : Type 1} → statement M
 put-orders-spec =

@@ -1,16 +1,17 @@
+use native.Mathlib.Omega.{arith}
 use borrow.Author.Needs.{needs}
 use Rattle.display.specs.PageLaws.{too-long-printed, refusal-printed, read-printed}
 use Rattle.display.proofs.page.put_page.Statement.{statement}
 use Rattle.display.proofs.page.put_page.Tie as tie
 
 put-text-refused-requires : tie.Need-put-text-refused-requires
-put-text-refused-requires c κs = search needs
+put-text-refused-requires c κs = omega arith
 
 same-length : tie.Need-same-length
 same-length c = search needs
 
 returns : tie.Need-returns
-returns c = search (needs, too-long-printed)
+returns c = (search too-long-printed, omega arith)
 
 slice-aggregate-read : tie.Need-slice-aggregate-read
 slice-aggregate-read c = search needs
@@ -28,25 +29,25 @@ part-requires : tie.Need-part-requires
 part-requires c κs = search needs
 
 put-levels-requires : tie.Need-put-levels-requires
-put-levels-requires c κs = search needs
+put-levels-requires c κs = omega arith
 
 enum-known-answer-2 : tie.Need-enum-known-answer-2
 enum-known-answer-2 c = search needs
 
 put-text-refused-requires-2 : tie.Need-put-text-refused-requires-2
-put-text-refused-requires-2 c κs = search needs
+put-text-refused-requires-2 c κs = omega arith
 
 same-length-2 : tie.Need-same-length-2
 same-length-2 c = search needs
 
 returns-2 : tie.Need-returns-2
-returns-2 c = search (needs, read-printed)
+returns-2 c = (search (needs, read-printed), omega arith)
 
 same-length-3 : tie.Need-same-length-3
 same-length-3 c = search needs
 
 returns-3 : tie.Need-returns-3
-returns-3 c = search (needs, refusal-printed)
+returns-3 c = (search (needs, refusal-printed), omega arith)
 
 pub put-page-spec : {M : Type 1} → statement M
 put-page-spec =
