@@ -7,7 +7,7 @@ use lib.IntN.{pos}
 use Rattle.limits.specs.Limits.{largestImage, lastLevel}
 use Rattle.laws.specs.Characters.{characters}
 use Rattle.laws.specs.Sums.{total}
-use Rattle.refusals.specs.Refusals.{result, refusal}
+use Rattle.refusals.specs.Refusals.{result}
 use Rattle.hextext.specs.Text.{readText}
 use Rattle.hextext.specs.Written.{hexDigit, spell, checksum, headAndData, recordText, writing, textOf}
 use Rattle.hexformat.specs.ComputedBytes.{computed-bytes}
@@ -39,7 +39,7 @@ pub kind-127 : levelLine 1 (image 127) ≡ characters "level 1 refused 9 127\n"
 unfolding levelLine refusedWords pair field decimalIn
 kind-127 = rw unknown-127
 
-pub too-long : textRefused (refusal 4 0) ≡ characters "text refused 4 0\n"
+pub too-long : textRefused 4 0 ≡ characters "text refused 4 0\n"
 unfolding textRefused refusedWords pair field decimalIn
 too-long = refl
 

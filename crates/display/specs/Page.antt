@@ -6,7 +6,6 @@ use lib.Dec.{leb}
 use lib.ListN.{length}
 use Rattle.limits.specs.Limits.{largestImage, lastLevel, longestShownText}
 use Rattle.laws.specs.Characters.{characters}
-use Rattle.refusals.specs.declared.Refusal.{Refusal}
 use Rattle.refusals.specs.declared.Verdict.{Verdict}
 use Rattle.refusals.specs.declared.Verdict.the-variants.{Accepted, Refused}
 use Rattle.refusals.specs.Refusals.{Outcome, result, refused, refusal}
@@ -19,9 +18,8 @@ use Rattle.sets.specs.Set.{setOf}
 use Rattle.panel.specs.Verdict.{verdictOf}
 use Rattle.display.specs.Words.{field, pair, twoDigits, fieldRoom, pairRoom, twoDigitsRoom}
 
--- a refusal: its number and its detail
-unfoldable pub refusedWords : Refusal → List ℕ
-refusedWords r = pair (characters " refused ") (r .number) (r .detail) ++ characters "\n"
+unfoldable pub refusedWords : (number detail : ℕ) → List ℕ
+refusedWords number detail = pair (characters " refused ") number detail ++ characters "\n"
 
 abbrev pub refusedRoom : ℕ
 refusedRoom = pairRoom (characters " refused ") + 1
@@ -55,7 +53,7 @@ imageWords image = acceptedWords (identityOf (bodyFound image 1)) (setOf (bodyFo
 
 abbrev verdictWords : Verdict → (image : List ℕ) → List ℕ
 verdictWords Accepted image = imageWords image
-verdictWords (Refused r) image = refusedWords r
+verdictWords (Refused r) image = refusedWords (r .number) (r .detail)
 
 unfoldable pub levelLine : (level : ℕ) (image : List ℕ) → List ℕ
 levelLine level image = field (characters "level ") level ++ verdictWords (verdictOf level image) image
@@ -69,15 +67,15 @@ unfoldable pub levelLines : (levels : ℕ) (image : List ℕ) → List ℕ
 levelLines zero image = []
 levelLines (suc before) image = levelLines before image ++ levelLine (suc before) image
 
-unfoldable pub textRefused : Refusal → List ℕ
-textRefused r = characters "text" ++ refusedWords r
+unfoldable pub textRefused : (number detail : ℕ) → List ℕ
+textRefused number detail = characters "text" ++ refusedWords number detail
 
 abbrev pub textRefusedRoom : ℕ
 textRefusedRoom = length (characters "text") + refusedRoom
 
 abbrev outcomePage : Outcome → List ℕ
 outcomePage (result image) = levelLines lastLevel image
-outcomePage (refused r) = textRefused r
+outcomePage (refused r) = textRefused (r .number) (r .detail)
 
 -- a longer text is refused unread
 unfoldable pub pageOf : List ℕ → List ℕ

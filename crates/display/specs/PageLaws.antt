@@ -17,7 +17,7 @@ use Rattle.refusals.specs.declared.Verdict.{Verdict}
 use Rattle.refusals.specs.declared.Verdict.the-variants.{Accepted, Refused as NotAccepted}
 use Rattle.refusals.specs.declared.Filled.{Filled}
 use Rattle.refusals.specs.declared.Filled.the-variants.{Length, Refused}
-use Rattle.refusals.specs.Refusals.{result, refusal, heldAfter, Fills}
+use Rattle.refusals.specs.Refusals.{result, heldAfter, Fills}
 use Rattle.refusals.specs.RefusalsLaws.{refused-of, result-of}
 use Rattle.hextext.specs.Text.{readText}
 use Rattle.image.specs.Layout.{layoutVerdict}
@@ -70,15 +70,16 @@ module _ (at a b c end : ℕ) (d d₁ d₂ d₃ d₄ : List ℕ) where
       rw (← f .holds, ← g .holds, ← h .holds) (printed-then at c end (identity ++ pressure ++ temperature) (characters "\n") d d₃ d₄ two n)
 
 module _ (at m end : ℕ) (d d₁ d₂ : List ℕ) where
-  pub refused-printed : (r : Refusal) → Printed at (pair (characters " refused ") (r .number) (r .detail)) d m d₁
-      → Printed m (characters "\n") d₁ end d₂ → Printed at (refusedWords r) d end d₂
-  unfolding refusedWords
-  refused-printed r w v = printed-then at m end (pair (characters " refused ") (r .number) (r .detail)) (characters "\n") d d₁ d₂ w v
+  module _ (number detail : ℕ) where
+    pub refused-printed : Printed at (pair (characters " refused ") number detail) d m d₁ → Printed m (characters "\n") d₁ end d₂
+        → Printed at (refusedWords number detail) d end d₂
+    unfolding refusedWords
+    refused-printed = printed-then at m end (pair (characters " refused ") number detail) (characters "\n") d d₁ d₂
 
-  pub text-refused-printed : (r : Refusal) → Printed at (characters "text") d m d₁ → Printed m (refusedWords r) d₁ end d₂
-      → Printed at (textRefused r) d end d₂
-  unfolding textRefused
-  text-refused-printed r w v = printed-then at m end (characters "text") (refusedWords r) d d₁ d₂ w v
+    pub text-refused-printed : Printed at (characters "text") d m d₁ → Printed m (refusedWords number detail) d₁ end d₂
+        → Printed at (textRefused number detail) d end d₂
+    unfolding textRefused
+    text-refused-printed = printed-then at m end (characters "text") (refusedWords number detail) d d₁ d₂
 
   module _ (level : ℕ) (image : List ℕ) (verdict : Verdict) (e : verdict ≡ verdictOf level image) where
     pub level-accepted : Printed at (field (characters "level ") level) d m d₁
@@ -87,9 +88,11 @@ module _ (at m end : ℕ) (d d₁ d₂ : List ℕ) where
     level-accepted w a v = rw (← e, a) (printed-then at m end (field (characters "level ") level) (imageWords image) d d₁ d₂ w v)
 
     pub level-refused : Printed at (field (characters "level ") level) d m d₁
-        → (r : Refusal) → verdict ≡ NotAccepted r → Printed m (refusedWords r) d₁ end d₂ → Printed at (levelLine level image) d end d₂
+        → (r : Refusal) → verdict ≡ NotAccepted r → Printed m (refusedWords (r .number) (r .detail)) d₁ end d₂
+        → Printed at (levelLine level image) d end d₂
     unfolding levelLine
-    level-refused w r a v = rw (← e, a) (printed-then at m end (field (characters "level ") level) (refusedWords r) d d₁ d₂ w v)
+    level-refused w r a v =
+        rw (← e, a) (printed-then at m end (field (characters "level ") level) (refusedWords (r .number) (r .detail)) d d₁ d₂ w v)
 
 pub orders-printed : (at end : ℕ) (d d′ : List ℕ) (set : Set) (words body : List ℕ) → set ≡ setOf body
     → Printed at (pair words (set .pressure .order) (set .temperature .order)) d end d′ → Printed at (orderWords words (setOf body)) d end d′
@@ -129,13 +132,13 @@ module _ (image d₀ d : List ℕ) (at level : ℕ) (h : LevelsPrinted image d�
 -- ---- the page
 
 module _ (end : ℕ) (given d d′ : List ℕ) where
-  pub too-long-printed : longestShownText < length given → Printed 0 (textRefused (refusal 4 0)) d end d′ → Printed 0 (pageOf given) d end d′
+  pub too-long-printed : longestShownText < length given → Printed 0 (textRefused 4 0) d end d′ → Printed 0 (pageOf given) d end d′
   unfolding pageOf
   too-long-printed h p = rw (lt-leb (length given) longestShownText h) p
 
   module _ (h : length given ≤ longestShownText) (answer : Filled) (before after : List ℕ)
       (f : Fills (readText (length before) given) before answer after) (room : length before ≡ largestImage) where
-    pub refusal-printed : (r : Refusal) → answer ≡ Refused r → Printed 0 (textRefused r) d end d′ → Printed 0 (pageOf given) d end d′
+    pub refusal-printed : (r : Refusal) → answer ≡ Refused r → Printed 0 (textRefused (r .number) (r .detail)) d end d′ → Printed 0 (pageOf given) d end d′
     unfolding pageOf
     refusal-printed r e p =
         rw (le-leb (length given) longestShownText h, ← room, refused-of (readText (length before) given) before after answer f r e) p

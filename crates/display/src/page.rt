@@ -19,21 +19,14 @@ use limits::LARGEST_IMAGE;
 use limits::LAST_LEVEL;
 use limits::LONGEST_SHOWN_TEXT;
 use refusals::Filled;
-use refusals::Refusal;
 use refusals::Verdict;
 
-fn put_refused(page: &mut [u8], at: usize, refusal: Refusal) -> usize
+fn put_refused(page: &mut [u8], at: usize, number: u32, detail: u64) -> usize
     requires { ⌜ at + refusedRoom ≤ length (now page) ⌝ }
-    ensures { λ r. ⌜ Printed at (refusedWords refusal) (now (page .entry)) r (now (page .exit)) ⌝ }
+    ensures { λ r. ⌜ Printed at (refusedWords number detail) (now (page .entry)) r (now (page .exit)) ⌝ }
     ensures { λ r. ⌜ r ≤ at + refusedRoom ⌝ }
 {
-    let end = put_pair(
-        page,
-        at,
-        b" refused ",
-        refusal.number as u64,
-        refusal.detail,
-    );
+    let end = put_pair(page, at, b" refused ", number as u64, detail);
     put(page, end, b"\n")
 }
 
@@ -97,7 +90,7 @@ fn put_level(page: &mut [u8], at: usize, level: u32, image: &[u8]) -> usize
     let verdict = panel::verdict(image, level);
     match verdict {
         Verdict::Accepted => put_image(page, end, image),
-        Verdict::Refused(refusal) => put_refused(page, end, refusal),
+        Verdict::Refused(refusal) => put_refused(page, end, refusal.number, refusal.detail),
     }
 }
 
@@ -116,13 +109,13 @@ fn put_levels(page: &mut [u8], image: &[u8]) -> usize
     at
 }
 
-fn put_text_refused(page: &mut [u8], refusal: Refusal) -> usize
+fn put_text_refused(page: &mut [u8], number: u32, detail: u64) -> usize
     requires { ⌜ textRefusedRoom ≤ length (now page) ⌝ }
-    ensures { λ r. ⌜ Printed 0 (textRefused refusal) (now (page .entry)) r (now (page .exit)) ⌝ }
+    ensures { λ r. ⌜ Printed 0 (textRefused number detail) (now (page .entry)) r (now (page .exit)) ⌝ }
     ensures { λ r. ⌜ r ≤ textRefusedRoom ⌝ }
 {
     let end = put(page, 0, b"text");
-    put_refused(page, end, refusal)
+    put_refused(page, end, number, detail)
 }
 
 pub fn put_page(page: &mut [u8], given: &[u8]) -> usize
@@ -131,18 +124,12 @@ pub fn put_page(page: &mut [u8], given: &[u8]) -> usize
     ensures { λ r. ⌜ r ≤ pageRoom ⌝ }
 {
     if LONGEST_SHOWN_TEXT < given.len() {
-        return put_text_refused(
-            page,
-            Refusal {
-                number: 4,
-                detail: 0,
-            },
-        );
+        return put_text_refused(page, 4, 0);
     }
     let mut image = [0u8; LARGEST_IMAGE];
     let answer = hexread::read(given, &mut image);
     match answer {
         Filled::Length(length) => put_levels(page, numbers::slices::part(&image, 0, length)),
-        Filled::Refused(refusal) => put_text_refused(page, refusal),
+        Filled::Refused(refusal) => put_text_refused(page, refusal.number, refusal.detail),
     }
 }

@@ -7,9 +7,6 @@ use Rattle.display.proofs.page.put_refused.Tie as tie
 slice-aggregate-put-pair : tie.Need-slice-aggregate-put-pair
 slice-aggregate-put-pair c = search needs
 
-cast-put-pair : tie.Need-cast-put-pair
-cast-put-pair c = search needs
-
 put-pair-requires : tie.Need-put-pair-requires
 put-pair-requires c κs = omega arith
 
@@ -30,7 +27,6 @@ put-refused-spec =
     tie.close
     (tie.spec
     slice-aggregate-put-pair
-    cast-put-pair
     put-pair-requires
     slice-aggregate-put
     put-requires
