@@ -1,4 +1,4 @@
--- Each way to a page.
+-- What a function of the code has put on the page, by what its calls have put there.
 use mathlib.Core.Path.{_≡_, refl, ap, _∙_}
 use mathlib.Core.List.{List, _++_}
 use Prim.Native.Nat.{ℕ, suc, _+_, _-_, _*_, _≤_, _<_}

@@ -11,7 +11,7 @@ mod words;
 // What is printed of a text and of an image.
 mod page;
 
-// the longest line of a level
+// the longest line of a level: specs/Page.antt adds it up from its parts, and the proof fails where this is less
 const LEVEL_ROOM: usize = 230;
 
 pub const PAGE_SIZE: usize = limits::LAST_LEVEL as usize * LEVEL_ROOM;

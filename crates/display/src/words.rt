@@ -1,4 +1,4 @@
-// Each function puts its words at a place of the page, and says where they end.
+// Words and numbers put at a place of the page; each function asks for their room and says where they end.
 ghost use Prim.Native.Nat.{_+_, _≤_};
 ghost use lib.ListN.{length};
 ghost use Rattle.display.specs.Words.{field, pair, twoDigits, fieldRoom, pairRoom, twoDigitsRoom};
