@@ -1,5 +1,5 @@
 //! Links libbjorkneve.a from the folder BJORKNEVE_ARCHIVE names, or from
-//! ../../target/archive, where tests/archive writes it. A relative folder
+//! ../../target/archive, where tools/archive writes it. A relative folder
 //! starts at this crate. What is missing is said in one line.
 
 use std::env;
@@ -28,7 +28,7 @@ fn main() {
     };
     if let Some(fault) = fault {
         eprintln!(
-            "{} {}: run tests/archive on this machine, or name the archive's folder in BJORKNEVE_ARCHIVE",
+            "{} {}: run tools/archive on this machine, or name the archive's folder in BJORKNEVE_ARCHIVE",
             archive.display(),
             fault
         );

@@ -80,7 +80,9 @@ pub extern "C" fn bjorkneve_build(
     bodies: &[u8],
     image: &mut [u8],
 ) -> FilledForC
-    ensures { λ r. ⌜ FillsForC (buildImage (length (now (image .entry))) (linesGiven (now (kinds .entry)) (now (lengths .entry))) (now (bodies .entry))) (now (image .entry)) r (now (image .exit)) ⌝ }
+    ensures { λ r. ⌜ FillsForC
+        (buildImage (length (now (image .entry))) (linesGiven (now (kinds .entry)) (now (lengths .entry))) (now (bodies .entry)))
+        (now (image .entry)) r (now (image .exit)) ⌝ }
 {
     refusals::filled_for_c(builder::build_from_numbers(kinds, lengths, bodies, image))
 }

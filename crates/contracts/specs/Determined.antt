@@ -1,5 +1,5 @@
 -- Any two results that a public function's contract allows for one call are equal: the answers, and what each lent buffer holds. The contract is the function's
--- own: `Learnt` is what Rattle makes of its `ensures`. `tests/contracts` fails where a public function is left out.
+-- own: `Learnt` is what Rattle makes of its `ensures`. `tools/contracts` fails where a public function is left out.
 use mathlib.Core.Path.{refl, ap}
 use lib.IntN.{natAbs}
 use Rattle.whole.proofs as whole

@@ -1,5 +1,5 @@
 -- Nothing has to be tested before a call: no public function's contract asks anything of its caller. `requires` is the function's own, as Rattle exports it.
--- `tests/contracts` fails where a public function is left out.
+-- `tools/contracts` fails where a public function is left out.
 use mathlib.Core.Path.{refl}
 use Rattle.whole.proofs as whole
 use Rattle.whole.proofs.rounding as rounding

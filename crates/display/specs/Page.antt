@@ -1,11 +1,11 @@
--- What the show program prints of a HEX text.
+-- What the show program prints of a HEX text, and the room that each part takes on the page where its numbers are longest.
 use mathlib.Core.Bool.{cond}
 use mathlib.Core.List.{List, [], _++_}
-use Prim.Native.Nat.{ℕ}
+use Prim.Native.Nat.{ℕ, zero, suc, _+_, _*_}
 use lib.Dec.{leb}
 use lib.ListN.{length}
+use Rattle.limits.specs.Limits.{largestImage, lastLevel, longestShownText}
 use Rattle.laws.specs.Characters.{characters}
-use Rattle.refusals.specs.declared.Refusal.{Refusal}
 use Rattle.refusals.specs.declared.Verdict.{Verdict}
 use Rattle.refusals.specs.declared.Verdict.the-variants.{Accepted, Refused}
 use Rattle.refusals.specs.Refusals.{Outcome, result, refused, refusal}
@@ -16,47 +16,70 @@ use Rattle.bodies.specs.Identity.{identityOf}
 use Rattle.sets.specs.declared.Prescales.{Prescales}
 use Rattle.sets.specs.Set.{prescalesOf}
 use Rattle.panel.specs.Verdict.{verdictOf}
-use Rattle.display.specs.Words.{field, twoDigits}
+use Rattle.display.specs.Words.{field, pair, twoDigits, fieldRoom, pairRoom, twoDigitsRoom}
 
--- a refusal: its number and its detail
-abbrev pub refusedWords : Refusal → List ℕ
-refusedWords r = field (characters " refused ") (r .number) ++ field (characters " ") (r .detail) ++ characters "\n"
+unfoldable pub refusedWords : (number detail : ℕ) → List ℕ
+refusedWords number detail = pair (characters " refused ") number detail ++ characters "\n"
+
+abbrev pub refusedRoom : ℕ
+refusedRoom = pairRoom (characters " refused ") + 1
 
 -- ---- an accepted image
 
-abbrev pub identityWords : Identity → List ℕ
+unfoldable pub identityWords : Identity → List ℕ
 identityWords i = field (characters " serial ") (i .serial) ++ field (characters " date ") (i .year) ++ twoDigits (i .month) ++ twoDigits (i .day)
 
--- the orders NP and NT of a set
-abbrev pub orderWords : List ℕ → Prescales → List ℕ
-orderWords words set = field words (set .pressure .order) ++ field (characters " ") (set .temperature .order)
+abbrev pub identityRoom : ℕ
+identityRoom = fieldRoom (characters " serial ") + fieldRoom (characters " date ") + twoDigitsRoom + twoDigitsRoom
 
-abbrev pub setsWords : (pressure temperature : Prescales) → List ℕ
-setsWords pressure temperature = orderWords (characters " pressure ") pressure ++ orderWords (characters " temperature ") temperature ++ characters "\n"
+-- the orders NP and NT of a set
+unfoldable pub orderWords : List ℕ → Prescales → List ℕ
+orderWords words set = pair words (set .pressure .order) (set .temperature .order)
+
+unfoldable pub acceptedWords : Identity → (pressure temperature : Prescales) → List ℕ
+acceptedWords identity pressure temperature =
+    identityWords identity ++ orderWords (characters " pressure ") pressure ++ orderWords (characters " temperature ") temperature ++ characters "\n"
+
+abbrev pub acceptedRoom : ℕ
+acceptedRoom = identityRoom + pairRoom (characters " pressure ") + pairRoom (characters " temperature ") + 1
 
 abbrev bodyFound : (image : List ℕ) (kind : ℕ) → List ℕ
 bodyFound image kind = orElse [] (found image kind)
 
-abbrev pub acceptedWords : (image : List ℕ) → List ℕ
-acceptedWords image = identityWords (identityOf (bodyFound image 1)) ++ setsWords (prescalesOf (bodyFound image 2)) (prescalesOf (bodyFound image 3))
+unfoldable pub imageWords : (image : List ℕ) → List ℕ
+imageWords image = acceptedWords (identityOf (bodyFound image 1)) (prescalesOf (bodyFound image 2)) (prescalesOf (bodyFound image 3))
 
 -- ---- the page
 
 abbrev verdictWords : Verdict → (image : List ℕ) → List ℕ
-verdictWords Accepted image = acceptedWords image
-verdictWords (Refused r) image = refusedWords r
+verdictWords Accepted image = imageWords image
+verdictWords (Refused r) image = refusedWords (r .number) (r .detail)
 
-unfoldable pub levelLine : (number : ℕ) (image : List ℕ) → List ℕ
-levelLine number image = field (characters "level ") number ++ verdictWords (verdictOf number image) image
+unfoldable pub levelLine : (level : ℕ) (image : List ℕ) → List ℕ
+levelLine level image = field (characters "level ") level ++ verdictWords (verdictOf level image) image
 
-abbrev pub textRefused : Refusal → List ℕ
-textRefused r = characters "text" ++ refusedWords r
+-- a refusal takes less than an accepted image
+abbrev pub levelRoom : ℕ
+levelRoom = fieldRoom (characters "level ") + acceptedRoom
 
--- of a text that is read, a line for each level
+-- a line for each level, from level 1 on
+unfoldable pub levelLines : (levels : ℕ) (image : List ℕ) → List ℕ
+levelLines zero image = []
+levelLines (suc before) image = levelLines before image ++ levelLine (suc before) image
+
+unfoldable pub textRefused : (number detail : ℕ) → List ℕ
+textRefused number detail = characters "text" ++ refusedWords number detail
+
+abbrev pub textRefusedRoom : ℕ
+textRefusedRoom = length (characters "text") + refusedRoom
+
 abbrev outcomePage : Outcome → List ℕ
-outcomePage (result image) = levelLine 1 image ++ levelLine 2 image
-outcomePage (refused r) = textRefused r
+outcomePage (result image) = levelLines lastLevel image
+outcomePage (refused r) = textRefused (r .number) (r .detail)
 
--- a text of more than 65,536 bytes is refused unread
+-- a longer text is refused unread
 unfoldable pub pageOf : List ℕ → List ℕ
-pageOf given = outcomePage (cond (leb (length given) 65536) (readText 4096 given) (refused (refusal 4 0)))
+pageOf given = outcomePage (cond (leb (length given) longestShownText) (readText largestImage given) (refused (refusal 4 0)))
+
+abbrev pub pageRoom : ℕ
+pageRoom = lastLevel * levelRoom

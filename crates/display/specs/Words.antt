@@ -3,6 +3,7 @@ use mathlib.Core.Bool.{cond}
 use mathlib.Core.List.{List, [], _∷_, _++_}
 use Prim.Native.Nat.{ℕ, zero, suc, _+_, _/_, _%_}
 use lib.Dec.{ltb}
+use lib.ListN.{length}
 use Rattle.laws.specs.Characters.{characters}
 
 abbrev pub digit : ℕ → ℕ
@@ -17,9 +18,28 @@ abbrev pub decimal : ℕ → List ℕ
 decimal n = decimalIn (suc n) n
 
 -- words, and a number after them
-abbrev pub field : List ℕ → ℕ → List ℕ
+unfoldable pub field : List ℕ → ℕ → List ℕ
 field words n = words ++ decimal n
 
+-- and a second number after a blank
+unfoldable pub pair : List ℕ → (first second : ℕ) → List ℕ
+pair words first second = field words first ++ field (characters " ") second
+
 -- month or day after a hyphen, in two digits
-abbrev pub twoDigits : ℕ → List ℕ
+unfoldable pub twoDigits : ℕ → List ℕ
 twoDigits n = cond (ltb n 10) (field (characters "-0") n) (field (characters "-") n)
+
+-- ---- the room that these take on a page
+
+-- the digits of a number of 64 bits
+abbrev pub numberRoom : ℕ
+numberRoom = 20
+
+abbrev pub fieldRoom : List ℕ → ℕ
+fieldRoom words = length words + numberRoom
+
+abbrev pub pairRoom : List ℕ → ℕ
+pairRoom words = fieldRoom words + fieldRoom (characters " ")
+
+abbrev pub twoDigitsRoom : ℕ
+twoDigitsRoom = fieldRoom (characters "-0")

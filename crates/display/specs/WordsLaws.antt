@@ -13,12 +13,15 @@ use Rattle.io.specs.Digits.{glyph, digits, Fewest}
 use Rattle.laws.specs.Cases.{split}
 use Rattle.laws.specs.Characters.{characters}
 use Rattle.laws.specs.BufferWrites.{WrittenAt, written-nothing, written-character, written-then}
-use Rattle.display.specs.Words.{digit, decimalIn, decimal, field, twoDigits}
+use Rattle.display.specs.Words.{digit, decimalIn, decimal, field, pair, twoDigits, numberRoom, fieldRoom}
 
--- the words were put at `at`, and end at `end`
+-- the words were put at `at` of the page d, and end at `end`; d′ is the page then
 pub record Printed (at : ℕ) (words d : List ℕ) (end : ℕ) (d′ : List ℕ) : Type 0 where
   pub wrote : WrittenAt at words d d′
   pub ends : end ≡ at + length words
+
+pub printed-nothing : (at : ℕ) (d : List ℕ) → Printed at [] d at d
+printed-nothing at d = record { wrote = written-nothing at d; ends = omega arith }
 
 pub printed-then : (at m end : ℕ) (p q d d₁ d₂ : List ℕ) → Printed at p d m d₁ → Printed m q d₁ end d₂ → Printed at (p ++ q) d end d₂
 printed-then at m end p q d d₁ d₂ w v =
@@ -29,7 +32,7 @@ printed-then at m end p q d d₁ d₂ w v =
 
 -- ---- the words copied
 
--- the first i of them
+-- the loop's invariant: the first i of the words are on the page
 pub record Putting (at : ℕ) (words d₀ d : List ℕ) (i : ℕ) : Type 0 where
   pub within : i ≤ length words
   pub kept : length d ≡ length d₀
@@ -87,23 +90,32 @@ fewest-decimal zero n f = absurd (omega (arith, f .0))
 fewest-decimal (suc k) n f = fewest-are k n n f (omega arith)
 
 -- a number of 64 bits has 20 digits at most
-few-digits : (k n : ℕ) → Fewest 10 1 n k → n < 2 ^ 64 → k ≤ 20
+few-digits : (k n : ℕ) → Fewest 10 1 n k → n < 2 ^ 64 → k ≤ numberRoom
 few-digits k n f h =
     split k 20 (λ few. few)
     (λ (many : 20 < k). absurd (omega (arith, f .2 (omega arith), pow-le-pow-right {n = 10} (omega arith) {i = 20} {j = k - 1} (omega arith))))
 
 module _ (k n : ℕ) (out : List ℕ) (c : Counts k out) (f : Fewest 10 1 n k) (h : n < 2 ^ 64) where
-  pub digits-fit : length (take k out) ≤ 20
+  pub digits-fit : length (take k out) ≤ numberRoom
   digits-fit = omega (arith, c .1, few-digits k n f h)
 
-  pub field-printed : (at m end : ℕ) (words d d₁ d₂ : List ℕ) → take k out ≡ digits 10 k n → Printed at words d m d₁ → Printed m (take k out) d₁ end d₂
-      → Printed at (field words n) d end d₂ × (end ≤ at + (length words + 20))
+  pub field-printed : (at m end : ℕ) (words d d₁ d₂ : List ℕ)
+      → take k out ≡ digits 10 k n → Printed at words d m d₁ → Printed m (take k out) d₁ end d₂
+      → Printed at (field words n) d end d₂ × (end ≤ at + fieldRoom words)
+  unfolding field
   field-printed at m end words d d₁ d₂ e p q =
       (printed-then at m end words (decimal n) d d₁ d₂ p (rw (← fewest-decimal k n f, ← e) q), omega (arith, p .ends, q .ends, digits-fit))
 
+pub pair-printed : (at m end first second : ℕ) (words d d₁ d₂ : List ℕ)
+    → Printed at (field words first) d m d₁ → Printed m (field (characters " ") second) d₁ end d₂ → Printed at (pair words first second) d end d₂
+unfolding pair
+pair-printed at m end first second words d d₁ d₂ = printed-then at m end (field words first) (field (characters " ") second) d d₁ d₂
+
 module _ (at n end : ℕ) (d d′ : List ℕ) where
   pub one-digit-printed : n < 10 → Printed at (field (characters "-0") n) d end d′ → Printed at (twoDigits n) d end d′
+  unfolding twoDigits
   one-digit-printed h p = rw (lt-ltb n 10 h) p
 
   pub more-digits-printed : 10 ≤ n → Printed at (field (characters "-") n) d end d′ → Printed at (twoDigits n) d end d′
+  unfolding twoDigits
   more-digits-printed h p = rw (le-ltb n 10 h) p

@@ -8,16 +8,21 @@ ghost use Rattle.display.specs.Page.{pageOf};
 // Words and numbers on a page.
 mod words;
 
-// What is said of a text and of an image.
-mod lines;
+// What is printed of a text and of an image.
+mod page;
+
+// the longest line of a level: specs/Page.antt adds it up from its parts, and the proof fails where this is less
+const LEVEL_ROOM: usize = 230;
+
+pub const PAGE_SIZE: usize = limits::LAST_LEVEL as usize * LEVEL_ROOM;
 
 // The page's bytes from its start on, as many as the answer says, are what is printed; zeros stand after them.
-pub fn show(text: &[u8], page: &mut [u8; 512]) -> usize
+pub fn show(text: &[u8], page: &mut [u8; PAGE_SIZE]) -> usize
     ensures { λ r. ⌜ r ≡ length (pageOf (now (text .entry))) ⌝ }
     ensures { λ _. ⌜ now (page .exit) ≡ heldAfter (length (now (page .entry))) (result (pageOf (now (text .entry)))) ⌝ }
     ensures { λ r. ⌜ Counts r (now (page .exit)) ⌝ }
 {
-    let end = lines::put_page(page, text);
+    let end = page::put_page(page, text);
     numbers::slices::clear_from(page, end);
     end
 }

@@ -22,3 +22,9 @@ largestSum = 500000000000
 -- of a set
 abbrev pub largestResult : ℕ
 largestResult = 2 ^ 31
+
+abbrev pub lastLevel : ℕ
+lastLevel = 2
+
+abbrev pub longestShownText : ℕ
+longestShownText = 65536

@@ -75,6 +75,15 @@ pub const LARGEST_SUM: u64 = 500000000000;
 // 2^31
 pub const LARGEST_RESULT: u64 = 2147483648;
 
+// ---- levels
+
+pub const LAST_LEVEL: u32 = 2;
+
+// ---- HEX texts
+
+// of 256 records of 16 bytes, and the end record
+pub const LONGEST_WRITTEN_TEXT: usize = 11276;
+
 // ---- the show program
 
 pub const LONGEST_SHOWN_TEXT: usize = 65536;

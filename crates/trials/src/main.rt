@@ -1,4 +1,7 @@
 // Shows the texts of data/, which are document 01's examples of the show program and what it says of long texts.
+use display::PAGE_SIZE;
+use limits::LONGEST_SHOWN_TEXT;
+
 fn show_file(name: &[u8]) {
     io::write_all(1, name);
     io::write_all(1, b"\n");
@@ -7,9 +10,9 @@ fn show_file(name: &[u8]) {
         os::fail(name);
         return;
     }
-    let mut text = [0u8; 65537];
+    let mut text = [0u8; LONGEST_SHOWN_TEXT + 1];
     let length = io::read_full(file, &mut text);
-    let mut page = [0u8; 512];
+    let mut page = [0u8; PAGE_SIZE];
     let end = display::show(&text[..length], &mut page);
     io::write_all(1, &page[..end]);
 }

@@ -17,8 +17,9 @@ slice-aggregate-put c = search needs
 
 put-requires-2 : tie.Need-put-requires-2
 put-requires-2 c κs =
-    let told = c .before .before .decimal .ensures in
-    let few = digits-fit _ (c .before .before .before .before .before .before .before .before .before .before .args .n) _ (told .0) (told .1 .0) (search needs) in
+    let decimal = c .before .before .decimal .ensures in
+    let copied = c .before .before .before .before .before .before in
+    let few = digits-fit _ (copied .before .before .before .before .args .n) _ (decimal .0) (decimal .1 .0) (search needs) in
     search needs
 
 same-length : tie.Need-same-length
@@ -26,8 +27,11 @@ same-length c = search needs
 
 returns : tie.Need-returns
 returns c =
-    let told = c .before .before .before .before .before .decimal .ensures in
-    field-printed _ (c .before .before .before .before .before .before .before .before .before .before .before .before .before .args .n) _ (told .0) (told .1 .0) (search needs) _ _ _ _ _ _ _ (told .1 .1) (c .before .before .before .before .before .before .before .before .before .put .ensures) (c .before .before .put2 .ensures)
+    let spelt = c .before .before .before .before .before in
+    let copied = spelt .before .before .before .before in
+    let decimal = spelt .decimal .ensures in
+    field-printed _ (copied .before .before .before .before .args .n) _ (decimal .0) (decimal .1 .0) (search needs) _ _ _ _ _ _ _
+    (decimal .1 .1) (copied .put .ensures) (c .before .before .put2 .ensures)
 
 pub put-field-spec : {M : Type 1} → statement M
 put-field-spec =

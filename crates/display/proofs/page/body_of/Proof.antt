@@ -1,7 +1,7 @@
 use borrow.Author.Needs.{needs}
 use Rattle.finder.specs.FinderLaws.{stated-found}
-use Rattle.display.proofs.lines.body_of.Statement.{statement}
-use Rattle.display.proofs.lines.body_of.Tie as tie
+use Rattle.display.proofs.page.body_of.Statement.{statement}
+use Rattle.display.proofs.page.body_of.Tie as tie
 
 ruleset laws = (needs, stated-found)
 

@@ -1,24 +1,23 @@
+use native.Mathlib.Omega.{arith}
 use borrow.Author.Needs.{needs}
-use Rattle.display.specs.WordsLaws.{printed-then}
-use Rattle.display.proofs.lines.put_text_refused.Statement.{statement}
-use Rattle.display.proofs.lines.put_text_refused.Tie as tie
-
-ruleset laws = (needs, printed-then)
+use Rattle.display.specs.PageLaws.{text-refused-printed}
+use Rattle.display.proofs.page.put_text_refused.Statement.{statement}
+use Rattle.display.proofs.page.put_text_refused.Tie as tie
 
 slice-aggregate-put : tie.Need-slice-aggregate-put
 slice-aggregate-put c = search needs
 
 put-requires : tie.Need-put-requires
-put-requires c κs = search needs
+put-requires c κs = omega arith
 
 put-refused-requires : tie.Need-put-refused-requires
-put-refused-requires c κs = search needs
+put-refused-requires c κs = omega arith
 
 same-length : tie.Need-same-length
 same-length c = search needs
 
 returns : tie.Need-returns
-returns c = search laws
+returns c = (search text-refused-printed, omega arith)
 
 pub put-text-refused-spec : {M : Type 1} → statement M
 put-text-refused-spec =

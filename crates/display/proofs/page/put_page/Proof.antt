@@ -1,16 +1,17 @@
+use native.Mathlib.Omega.{arith}
 use borrow.Author.Needs.{needs}
-use Rattle.display.specs.PageLaws.{too-long-printed, refusal-printed, image-printed}
-use Rattle.display.proofs.lines.put_page.Statement.{statement}
-use Rattle.display.proofs.lines.put_page.Tie as tie
+use Rattle.display.specs.PageLaws.{too-long-printed, refusal-printed, read-printed}
+use Rattle.display.proofs.page.put_page.Statement.{statement}
+use Rattle.display.proofs.page.put_page.Tie as tie
 
 put-text-refused-requires : tie.Need-put-text-refused-requires
-put-text-refused-requires c κs = search needs
+put-text-refused-requires c κs = omega arith
 
 same-length : tie.Need-same-length
 same-length c = search needs
 
 returns : tie.Need-returns
-returns c = search (needs, too-long-printed)
+returns c = (search too-long-printed, omega arith)
 
 slice-aggregate-read : tie.Need-slice-aggregate-read
 slice-aggregate-read c = search needs
@@ -18,8 +19,8 @@ slice-aggregate-read c = search needs
 read-requires : tie.Need-read-requires
 read-requires c κs = search needs
 
-enum-known-told : tie.Need-enum-known-told
-enum-known-told c = search needs
+enum-known-answer : tie.Need-enum-known-answer
+enum-known-answer c = search needs
 
 slice-aggregate-part : tie.Need-slice-aggregate-part
 slice-aggregate-part c = search needs
@@ -27,29 +28,26 @@ slice-aggregate-part c = search needs
 part-requires : tie.Need-part-requires
 part-requires c κs = search needs
 
-put-level-requires : tie.Need-put-level-requires
-put-level-requires c κs = search needs
+put-levels-requires : tie.Need-put-levels-requires
+put-levels-requires c κs = omega arith
 
-put-level-requires-2 : tie.Need-put-level-requires-2
-put-level-requires-2 c κs = search needs
-
-enum-known-told-2 : tie.Need-enum-known-told-2
-enum-known-told-2 c = search needs
+enum-known-answer-2 : tie.Need-enum-known-answer-2
+enum-known-answer-2 c = search needs
 
 put-text-refused-requires-2 : tie.Need-put-text-refused-requires-2
-put-text-refused-requires-2 c κs = search needs
+put-text-refused-requires-2 c κs = omega arith
 
 same-length-2 : tie.Need-same-length-2
 same-length-2 c = search needs
 
 returns-2 : tie.Need-returns-2
-returns-2 c = search (needs, image-printed)
+returns-2 c = (search (needs, read-printed), omega arith)
 
 same-length-3 : tie.Need-same-length-3
 same-length-3 c = search needs
 
 returns-3 : tie.Need-returns-3
-returns-3 c = search (needs, refusal-printed)
+returns-3 c = (search (needs, refusal-printed), omega arith)
 
 pub put-page-spec : {M : Type 1} → statement M
 put-page-spec =
@@ -60,12 +58,11 @@ put-page-spec =
     returns
     slice-aggregate-read
     read-requires
-    enum-known-told
+    enum-known-answer
     slice-aggregate-part
     part-requires
-    put-level-requires
-    put-level-requires-2
-    enum-known-told-2
+    put-levels-requires
+    enum-known-answer-2
     put-text-refused-requires-2
     same-length-2
     returns-2

@@ -1,13 +1,14 @@
+use native.Mathlib.Omega.{arith}
 use borrow.Author.Needs.{needs}
 use Rattle.display.specs.PageLaws.{verdict-laid, level-accepted, level-refused}
-use Rattle.display.proofs.lines.put_level.Statement.{statement}
-use Rattle.display.proofs.lines.put_level.Tie as tie
+use Rattle.display.proofs.page.put_level.Statement.{statement}
+use Rattle.display.proofs.page.put_level.Tie as tie
 
 slice-aggregate-put-field : tie.Need-slice-aggregate-put-field
 slice-aggregate-put-field c = search needs
 
 put-field-requires : tie.Need-put-field-requires
-put-field-requires c κs = search needs
+put-field-requires c κs = omega arith
 
 verdict-requires : tie.Need-verdict-requires
 verdict-requires c κs = search needs
@@ -15,26 +16,26 @@ verdict-requires c κs = search needs
 enum-told : tie.Need-enum-told
 enum-told c = search needs
 
-put-accepted-requires : tie.Need-put-accepted-requires
-put-accepted-requires c κs = (search needs, search (needs, verdict-laid))
+put-image-requires : tie.Need-put-image-requires
+put-image-requires c κs = (omega arith, search verdict-laid)
 
 enum-known-verdict : tie.Need-enum-known-verdict
 enum-known-verdict c = search needs
 
 put-refused-requires : tie.Need-put-refused-requires
-put-refused-requires c κs = search needs
+put-refused-requires c κs = omega arith
 
 same-length : tie.Need-same-length
 same-length c = search needs
 
 returns : tie.Need-returns
-returns c = search (needs, level-accepted)
+returns c = (search level-accepted, omega arith)
 
 same-length-2 : tie.Need-same-length-2
 same-length-2 c = search needs
 
 returns-2 : tie.Need-returns-2
-returns-2 c = search (needs, level-refused)
+returns-2 c = (search level-refused, omega arith)
 
 pub put-level-spec : {M : Type 1} → statement M
 put-level-spec =
@@ -44,7 +45,7 @@ put-level-spec =
     put-field-requires
     verdict-requires
     enum-told
-    put-accepted-requires
+    put-image-requires
     enum-known-verdict
     put-refused-requires
     same-length

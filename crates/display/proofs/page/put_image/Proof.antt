@@ -1,0 +1,58 @@
+use native.Mathlib.Omega.{arith}
+use borrow.Author.Needs.{needs}
+use Rattle.display.specs.PageLaws.{image-printed}
+use Rattle.display.proofs.page.put_image.Statement.{statement}
+use Rattle.display.proofs.page.put_image.Tie as tie
+
+body-of-requires : tie.Need-body-of-requires
+body-of-requires c κs = search needs
+
+put-identity-requires : tie.Need-put-identity-requires
+put-identity-requires c κs = omega arith
+
+slice-aggregate-put-orders : tie.Need-slice-aggregate-put-orders
+slice-aggregate-put-orders c = search needs
+
+body-of-requires-2 : tie.Need-body-of-requires-2
+body-of-requires-2 c κs = search needs
+
+put-orders-requires : tie.Need-put-orders-requires
+put-orders-requires c κs = omega arith
+
+slice-aggregate-put-orders-2 : tie.Need-slice-aggregate-put-orders-2
+slice-aggregate-put-orders-2 c = search needs
+
+body-of-requires-3 : tie.Need-body-of-requires-3
+body-of-requires-3 c κs = search needs
+
+put-orders-requires-2 : tie.Need-put-orders-requires-2
+put-orders-requires-2 c κs = omega arith
+
+slice-aggregate-put : tie.Need-slice-aggregate-put
+slice-aggregate-put c = search needs
+
+put-requires : tie.Need-put-requires
+put-requires c κs = omega arith
+
+same-length : tie.Need-same-length
+same-length c = search needs
+
+returns : tie.Need-returns
+returns c = (search image-printed, omega arith)
+
+pub put-image-spec : {M : Type 1} → statement M
+put-image-spec =
+    tie.close
+    (tie.spec
+    body-of-requires
+    put-identity-requires
+    slice-aggregate-put-orders
+    body-of-requires-2
+    put-orders-requires
+    slice-aggregate-put-orders-2
+    body-of-requires-3
+    put-orders-requires-2
+    slice-aggregate-put
+    put-requires
+    same-length
+    returns)
