@@ -16,7 +16,7 @@ use Rattle.hextext.specs.Record.{digit, allDigits, bytesOf}
 use Rattle.hextext.specs.RecordLaws.{length-bytesOf}
 use Rattle.hexline.specs.Line.{digitsSum}
 use Rattle.hexline.specs.PairsLaws.{PairsAddUp}
-use Rattle.hexread.specs.PairsLaws.{SumOfPairs, sum-of-no-digits, sum-of-digits, PairsWritten, DataTaken}
+use Rattle.hexread.specs.PairsLaws.{SumOfPairs, sum-of-no-digits, sum-of-digits, PairsWritten, WritingPairs, writing-block, writing-block-failed, DataTaken}
 
 -- ---- the characters copied
 
@@ -96,7 +96,7 @@ module _ (l : List ℕ) (from n : ℕ) (b : List ℕ) (block : b ≡ take (n * 2
           sum = rw (joined, bytesOf-append n b rest size, total-append (bytesOf b) (bytesOf rest)) (omega (arith, sums));
         }
 
-  pub written-of-block : (d d′ : List ℕ) (to r : ℕ) → PairsWritten b 0 n d d′ to r → PairsWritten l from n d d′ to r
+  written-of-block : (d d′ : List ℕ) (to r : ℕ) → PairsWritten b 0 n d d′ to r → PairsWritten l from n d d′ to r
   written-of-block d d′ to r p =
       record {
         sum = record { good = λ h. add-up-of-block r (p .sum .good h); bad = λ h. rw (joined, allDigits-append b rest, p .sum .bad h) };
@@ -121,6 +121,22 @@ module _ (l : List ℕ) (from n : ℕ) (b : List ℕ) (block : b ≡ take (n * 2
       (λ (q : allDigits b ≡ false).
       let is : r ≡ 256 = rw q at sum in
       rw is (sum-of-no-digits l from n (rw (joined, allDigits-append b rest, q))))
+
+-- ---- a block of 16 more
+
+module _ (l : List ℕ) (from n : ℕ) (d d′ : List ℕ) (to s i : ℕ) (h : WritingPairs l from n d d′ to s 0 i) (b : List ℕ)
+    (block : b ≡ take 32 (drop (from + i * 2) l)) (d″ : List ℕ) (r : ℕ) (p : PairsWritten b 0 16 d′ d″ (to + i) r)
+    (long : from + n * 2 ≤ length l) (more : 16 ≤ n - i) where
+  of-line : PairsWritten l (from + i * 2) 16 d′ d″ (to + i) r
+  of-line = written-of-block l (from + i * 2) 16 b block (omega arith) d′ d″ (to + i) r p
+
+  pub block-failed : 256 ≤ r → PairsWritten l from n d d″ to 256
+  block-failed = writing-block-failed l from n d d′ to s 0 i h (omega arith) 16 d″ r of-line
+
+  pub block-more : length d″ ≡ length d′ → to + n ≤ length d → r < 256 → WritingPairs l from n d d″ to ((s + r) % 256) 0 (i + 16)
+  block-more e room small = writing-block l from n d d′ to s 0 i h (omega arith) 16 d″ r of-line e long room small more
+
+-- ---- data that have no room
 
 pub taken-no-room : (l : List ℕ) (n : ℕ) (d : List ℕ) (to space r : ℕ) → 9 + n * 2 ≤ length l → space < n
     → r ≡ digitsSum (take (9 + n * 2 - 9) (drop 9 l)) → DataTaken l n d d to space r

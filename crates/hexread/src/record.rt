@@ -93,7 +93,7 @@ fn take_data(line: &[u8], count: usize, image: &mut [u8], to: usize, space: usiz
     digits_sum(&line[9..end])
 }
 
-// A record judged by its  One test of their sum for all pairs: NO_DIGIT is above the sum of six bytes.
+// A record judged by its parts, the data by their sum. One test stands for all pairs: NO_DIGIT is above the sum of six bytes.
 fn judge_parts(
     room: usize,
     at: usize,

@@ -5,10 +5,10 @@ use Rattle.hexline.proofs.digits.digits_sum.Statement.{statement}
 use Rattle.hexline.proofs.digits.digits_sum.Tie as tie
 
 abbrev Inv-loop : tie.InvT-loop
-Inv-loop characters count sum₀ worst₀ i₀ sum largest i = AddingPairs characters 0 count sum largest i
+Inv-loop characters count sum₀ largest₀ i₀ sum largest i = AddingPairs characters 0 count sum largest i
 
 abbrev μ-loop : tie.MeasureT-loop
-μ-loop characters count sum₀ worst₀ i₀ sum largest i = count - i
+μ-loop characters count sum₀ largest₀ i₀ sum largest i = count - i
 
 returns : tie.Need-returns Inv-loop μ-loop
 returns c = search (needs, sum-odd)

@@ -1,8 +1,7 @@
-use Prim.Native.Nat.{_+_, _-_, _*_}
+use Prim.Native.Nat.{_-_}
 use borrow.Author.Needs.{needs}
-use denote.Ref.{now}
-use Rattle.hexread.specs.PairsLaws.{WritingPairs, writing-first, writing-block, writing-block-failed, writing-rest}
-use Rattle.hexread.specs.BlockLaws.{written-of-block}
+use Rattle.hexread.specs.PairsLaws.{WritingPairs, writing-first, writing-block-failed, writing-rest}
+use Rattle.hexread.specs.BlockLaws.{block-failed, block-more}
 use Rattle.hexread.proofs.record.put_data.Statement.{statement}
 use Rattle.hexread.proofs.record.put_data.Tie as tie
 
@@ -40,13 +39,7 @@ same-length : tie.Need-same-length Inv-loop μ-loop
 same-length c = search needs
 
 returns : tie.Need-returns Inv-loop μ-loop
-returns c =
-    let put = c .before .before .before in
-    let block = put .before .before .before in
-    let turn = block .before .before in
-    let line = turn .before .before .before .args .line in
-    let p = written-of-block (now line) (9 + turn .loop .i * 2) 16 _ (block .block-at .ensures) (search needs) _ _ _ _ (put .put-pairs .ensures) in
-    search (needs, writing-block-failed)
+returns c = search (needs, block-failed)
 
 add-sum : tie.Need-add-sum Inv-loop μ-loop
 add-sum c = search needs
@@ -61,10 +54,9 @@ loop-again : tie.Need-loop-again Inv-loop μ-loop
 loop-again c =
     let put = c .before .before .before in
     let block = put .before .before .before in
-    let turn = block .before .before in
-    let line = turn .before .before .before .args .line in
-    let p = written-of-block (now line) (9 + turn .loop .i * 2) 16 _ (block .block-at .ensures) (search needs) _ _ _ _ (put .put-pairs .ensures) in
-    search (needs, writing-block)
+    let inv = block .before .before .loop .inv in
+    let ensured = put .put-pairs .ensures in
+    block-more _ _ _ _ _ _ _ _ inv _ (block .block-at .ensures) _ _ ensured (search needs) (search needs) (search needs) (search needs) (search needs)
 
 mul-put-pairs : tie.Need-mul-put-pairs Inv-loop μ-loop
 mul-put-pairs c = search needs

@@ -5,10 +5,10 @@ use Rattle.hexread.proofs.record.put_pairs.Statement.{statement}
 use Rattle.hexread.proofs.record.put_pairs.Tie as tie
 
 abbrev Inv-loop : tie.InvT-loop
-Inv-loop line from count image₀ to sum₀ worst₀ i₀ image sum largest i = WritingPairs line from count image₀ image to sum largest i
+Inv-loop line from count image₀ to sum₀ largest₀ i₀ image sum largest i = WritingPairs line from count image₀ image to sum largest i
 
 abbrev μ-loop : tie.MeasureT-loop
-μ-loop line from count image₀ to sum₀ worst₀ i₀ image sum largest i = count - i
+μ-loop line from count image₀ to sum₀ largest₀ i₀ image sum largest i = count - i
 
 loop-holds : tie.Need-loop-holds Inv-loop μ-loop
 loop-holds c = search (needs, writing-first)
