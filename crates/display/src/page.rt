@@ -50,14 +50,12 @@ fn put_orders(page: &mut [u8], at: usize, words: &[u8], body: &[u8]) -> usize
     ensures { λ r. ⌜ r ≤ at + pairRoom (now (words .entry)) ⌝ }
 {
     let set = sets::read_set(body);
-    let by_pressure = set.pressure;
-    let by_temperature = set.temperature;
     put_pair(
         page,
         at,
         words,
-        by_pressure.order as u64,
-        by_temperature.order as u64,
+        set.pressure.order as u64,
+        set.temperature.order as u64,
     )
 }
 
