@@ -49,15 +49,13 @@ fn put_orders(page: &mut [u8], at: usize, words: &[u8], body: &[u8]) -> usize
     ensures { λ r. ⌜ Printed at (orderWords (now (words .entry)) (prescalesOf (now (body .entry)))) (now (page .entry)) r (now (page .exit)) ⌝ }
     ensures { λ r. ⌜ r ≤ at + pairRoom (now (words .entry)) ⌝ }
 {
-    let set = sets::read_prescales(body);
-    let by_pressure = set.pressure;
-    let by_temperature = set.temperature;
+    let prescales = sets::read_prescales(body);
     put_pair(
         page,
         at,
         words,
-        by_pressure.order as u64,
-        by_temperature.order as u64,
+        prescales.pressure.order as u64,
+        prescales.temperature.order as u64,
     )
 }
 
