@@ -25,7 +25,7 @@ fn room_in(size: usize) -> usize
     }
 }
 
-fn refused(number: u32, line: u64) -> Filled
+fn text_refused(number: u32, line: u64) -> Filled
     ensures { λ r. ⌜ r ≡ Refused (refusal number line) ⌝ }
 {
     Filled::Refused(Refusal {
@@ -54,12 +54,12 @@ pub fn read_lines(text: &[u8], image: &mut [u8]) -> Filled
                 if start + next == text.len() {
                     return Filled::Length(size);
                 }
-                return refused(1, line + 1);
+                return text_refused(1, line + 1);
             }
             Step::Stop(number) => {
-                return refused(number, line);
+                return text_refused(number, line);
             }
         }
     }
-    refused(1, line)
+    text_refused(1, line)
 }

@@ -62,38 +62,38 @@ same-length c = search needs
 returns : tie.Need-returns Inv-loop μ-loop
 returns c = search (needs, reading-done)
 
-add-refused : tie.Need-add-refused Inv-loop μ-loop
-add-refused c = search needs
+add-text-refused : tie.Need-add-text-refused Inv-loop μ-loop
+add-text-refused c = search needs
 
-refused-requires : tie.Need-refused-requires Inv-loop μ-loop
-refused-requires c κs = search needs
+text-refused-requires : tie.Need-text-refused-requires Inv-loop μ-loop
+text-refused-requires c κs = search needs
 
 same-length-2 : tie.Need-same-length-2 Inv-loop μ-loop
 same-length-2 c = search needs
 
 returns-2 : tie.Need-returns-2 Inv-loop μ-loop
-returns-2 c = rw (c .refused .ensures) (search (needs, reading-overrun))
+returns-2 c = rw (c .text-refused .ensures) (search (needs, reading-overrun))
 
 enum-known-number : tie.Need-enum-known-number Inv-loop μ-loop
 enum-known-number c = search needs
 
-refused-requires-2 : tie.Need-refused-requires-2 Inv-loop μ-loop
-refused-requires-2 c κs = search needs
+text-refused-requires-2 : tie.Need-text-refused-requires-2 Inv-loop μ-loop
+text-refused-requires-2 c κs = search needs
 
 same-length-3 : tie.Need-same-length-3 Inv-loop μ-loop
 same-length-3 c = search needs
 
 returns-3 : tie.Need-returns-3 Inv-loop μ-loop
-returns-3 c = rw (c .refused2 .ensures) (search (needs, reading-refused))
+returns-3 c = rw (c .text-refused2 .ensures) (search (needs, reading-refused))
 
-refused-requires-3 : tie.Need-refused-requires-3 Inv-loop μ-loop
-refused-requires-3 c κs = search needs
+text-refused-requires-3 : tie.Need-text-refused-requires-3 Inv-loop μ-loop
+text-refused-requires-3 c κs = search needs
 
 same-length-4 : tie.Need-same-length-4 Inv-loop μ-loop
 same-length-4 c = search needs
 
 returns-4 : tie.Need-returns-4 Inv-loop μ-loop
-returns-4 c = rw (c .refused3 .ensures) (search (needs, reading-stops))
+returns-4 c = rw (c .text-refused3 .ensures) (search (needs, reading-stops))
 
 pub read-lines-spec : {M : Type 1} → statement M
 read-lines-spec =
@@ -118,14 +118,14 @@ read-lines-spec =
     add-if1
     same-length
     returns
-    add-refused
-    refused-requires
+    add-text-refused
+    text-refused-requires
     same-length-2
     returns-2
     enum-known-number
-    refused-requires-2
+    text-refused-requires-2
     same-length-3
     returns-3
-    refused-requires-3
+    text-refused-requires-3
     same-length-4
     returns-4)
