@@ -1,8 +1,6 @@
 // The three checks of contents, refusals 5 to 7, each by itself.
-ghost use mathlib.Core.Bool.{_&&_};
 ghost use mathlib.Core.Path.{_≡_};
 ghost use Prim.Native.Nat.{_<_};
-ghost use lib.Dec.{ltb, eqb};
 ghost use Rattle.image.specs.Contents.{startVerdict, countVerdict, allLines};
 ghost use Rattle.contents.specs.Lines.{lineAt, fitsAfter};
 use crate::ContentsLine;

@@ -70,7 +70,8 @@ names-unknown level image kind is-level good lowest =
 
 -- ---- laid out anew
 
-module _ (level : ℕ) (image : List ℕ) (further : List Section) (anew : List ℕ) (f : FurtherSections level image further) (laid : LaidAnew image further anew) where
+module _ (level : ℕ) (image : List ℕ) (further : List Section) (anew : List ℕ) (f : FurtherSections level image further)
+    (laid : LaidAnew image further anew) where
   still-there : (kind : ℕ) → HasKind image kind → HasKind anew kind
   still-there kind h = laid .has kind _ .1 (inl (record { has = h; is = refl })) .has
 

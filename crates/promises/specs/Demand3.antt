@@ -32,7 +32,8 @@ use Rattle.promises.specs.AnewLaws.{anew-accepted, anew-names, high-or-l
 
 -- ---- further sections
 
-module _ (level : ℕ) (image : List ℕ) (further : List Section) (anew : List ℕ) (f : FurtherSections level image further) (laid : LaidAnew image further anew) where
+module _ (level : ℕ) (image : List ℕ) (further : List Section) (anew : List ℕ) (f : FurtherSections level image further)
+    (laid : LaidAnew image further anew) where
   was-accepted : verdictOf level image ≡ Accepted
   was-accepted = verdict-accepted-exactly level image .1 (f .accepted)
 

@@ -1,5 +1,4 @@
 -- For each theorem of the demands with hypotheses, a case that meets them: the worked image, in which every number matters.
-use mathlib.Core.Bool.{Bool, true, _&&_}
 use mathlib.Core.List.{List, [], _∷_, _++_}
 use mathlib.Core.Logic.{inl, inr, ⊎-elim}
 use mathlib.Core.Option.{none}

@@ -5,7 +5,7 @@ use crate::value::limited;
 use sets::Prescale;
 ghost use mathlib.Core.Path.{_≡_};
 ghost use mathlib.Core.Bool.{true};
-ghost use Prim.Native.Nat.{_≤_, _^_};
+ghost use Prim.Native.Nat.{_≤_};
 ghost use lib.IntN.{pos, natAbs};
 ghost use lib.ListN.{replicate};
 ghost use Rattle.limits.specs.Limits.{highestFrequency, largestX, largestSum};

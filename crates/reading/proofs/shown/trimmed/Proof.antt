@@ -20,8 +20,9 @@ product s = pos (s .args .trim .span) *ℤ s .args .pressure
 module _ (c : tie.After-struct-known) where
   product-exact : Exact w64 (toZ w64 (c .before .args .trim .span) *ℤ kept w64 (c .before .args .pressure)) (product (c .before))
   product-exact =
-      let small : c .before .args .trim .span < 2 ^ 63 = omega arith in
-      exact w64 (rw (toZ-ofZ (c .before .fits .pressure), toZ-pos w64 small)) (trim-product-fits _ (c .before .args .pressure) (omega arith) (c .before .pre .1))
+      let s = c .before in
+      let small : s .args .trim .span < 2 ^ 63 = omega arith in
+      exact w64 (rw (toZ-ofZ (s .fits .pressure), toZ-pos w64 small)) (trim-product-fits _ (s .args .pressure) (omega arith) (s .pre .1))
 
 -- and so has the sum
 module _ (c : tie.After-rounded-over-2-28) where
