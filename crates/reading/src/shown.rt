@@ -11,11 +11,11 @@ ghost use lib.IntN.{pos, natAbs, _*ℤ_};
 ghost use Rattle.limits.specs.Limits.{largestResult};
 ghost use Rattle.reading.specs.Measured.{outside, markOf, trimmedBy, shownBy};
 
-// A whole number in 1/65,536.
-fn in_units(whole: i32) -> i64
-    ensures { λ r. ⌜ r ≡ whole *ℤ pos 65536 ⌝ }
+// A gauge's limit, a whole number, in 1/65,536.
+fn in_units(limit: i32) -> i64
+    ensures { λ r. ⌜ r ≡ limit *ℤ pos 65536 ⌝ }
 {
-    (whole as i64) * 65536
+    (limit as i64) * 65536
 }
 
 fn lies_outside(z: i64, low: i32, high: i32) -> bool

@@ -6,17 +6,17 @@ use Rattle.reading.specs.MeasuredLaws.{units-fit}
 use Rattle.reading.proofs.shown.in_units.Statement.{statement}
 use Rattle.reading.proofs.shown.in_units.Tie as tie
 
-wide : (c : tie.Start) → SFits w64 (c .args .whole)
-wide c = sfits-widen {w = w32} tt (c .fits .whole)
+wide : (c : tie.Start) → SFits w64 (c .args .limit)
+wide c = sfits-widen {w = w32} tt (c .fits .limit)
 
 cast-result : tie.Need-cast-result
-cast-result c = rw (toZ-ofZ (c .fits .whole)) (wide c)
+cast-result c = rw (toZ-ofZ (c .fits .limit)) (wide c)
 
 mul-result : tie.Need-mul-result
-mul-result c = rw (toZ-ofZ (c .fits .whole), toZ-ofZ (wide c)) (units-fit (c .args .whole) (c .fits .whole))
+mul-result c = rw (toZ-ofZ (c .fits .limit), toZ-ofZ (wide c)) (units-fit (c .args .limit) (c .fits .limit))
 
 returns : tie.Need-returns
-returns c = rw (toZ-ofZ (c .fits .whole), toZ-ofZ (wide c)) (toZ-ofZ (units-fit (c .args .whole) (c .fits .whole)))
+returns c = rw (toZ-ofZ (c .fits .limit), toZ-ofZ (wide c)) (toZ-ofZ (units-fit (c .args .limit) (c .fits .limit)))
 
 pub in-units-spec : {M : Type 1} → statement M
 in-units-spec = tie.close (tie.spec cast-result mul-result returns)
