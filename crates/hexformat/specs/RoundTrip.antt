@@ -46,13 +46,14 @@ is-written size image h k = rw (le-leb (length image) largestImage h, le-leb (te
 
 -- ---- the two contracts together
 
-record Wrote (image before after : List ℕ) (n : ℕ) : Type 0 where
+-- the writer's answer n: the image is not too large, and the buffer begins with its text
+record TextWritten (image before after : List ℕ) (n : ℕ) : Type 0 where
   small : length image ≤ largestImage
   begins : take n after ≡ textOf image
 
-wrote : (image before after : List ℕ) (n : ℕ) → Fills (writeImage (length before) image) before (Length n) after → Wrote image before after n
+text-written : (image before after : List ℕ) (n : ℕ) → Fills (writeImage (length before) image) before (Length n) after → TextWritten image before after n
 unfolding writeImage
-wrote image before after n fills =
+text-written image before after n fills =
     decide (leb (length image) largestImage)
     (λ (p : leb (length image) largestImage ≡ true).
     decide (leb (textLength (length image)) (length before))
@@ -77,7 +78,7 @@ pub there-and-back : (image text text′ buffer buffer′ : List ℕ) (n : ℕ) 
     → length image ≤ length buffer
     → (answer ≡ Length (length image)) × (buffer′ ≡ image ++ replicate (length buffer - length image) 0)
 there-and-back image text text′ buffer buffer′ n answer b writes reads h =
-    let w = wrote image text text′ n writes in
+    let w = text-written image text text′ n writes in
     let r : readText (length buffer) (take n text′) ≡ result image = rw (w .begins) (written-reads-back image b (length buffer) (w .small) h) in
     (rw r at (reads .answers), rw r at (reads .holds))
 

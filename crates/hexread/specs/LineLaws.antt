@@ -37,6 +37,7 @@ pub record ReadingEnds (u d d′ : List ℕ) (room at next : ℕ) : Type 0 where
   pub whole : (k : ℕ) → next ≡ length u → reading room k (take at d) [] u ≡ result (take at d′)
   pub more : (k : ℕ) → next < length u → reading room k (take at d) [] u ≡ refused (refusal 1 (k + 1))
 
+-- what each answer r to the first line says of reading the text u
 pub record FirstLineRead (r : Step) (u d d′ : List ℕ) (room at : ℕ) : Type 0 where
   pub on-more : (n next : ℕ) → r ≡ More n next → ReadingGoesOn u d d′ room at n next
   pub on-last : (next : ℕ) → r ≡ Last next → ReadingEnds u d d′ room at next

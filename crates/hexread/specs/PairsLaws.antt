@@ -55,7 +55,7 @@ pub record PairsWritten (l : List ℕ) (from n : ℕ) (d d′ : List ℕ) (to r 
 written-no-digits : (l : List ℕ) (from n : ℕ) (d d′ : List ℕ) (to : ℕ) → allDigits (drop from l) ≡ false → PairsWritten l from n d d′ to 256
 written-no-digits l from n d d′ to e = record { sum = sum-of-no-digits l from n e; wrote = λ h. absurd (omega arith) }
 
--- after i of them. The loop over blocks, which stops where one has no digits, says that the greatest digit is 0
+-- after i of them. The loop over blocks, which stops where one has no digits, says that the largest digit is 0
 pub record WritingPairs (l : List ℕ) (from n : ℕ) (d d′ : List ℕ) (to s largest i : ℕ) : Type 0 where
   pub adding : AddingPairs l from n s largest i
   pub wrote : largest < 16 → d′ ≡ paste d to (bytesOf (drop from l)) i
