@@ -6,7 +6,7 @@
 --     takes               line i is read out of the slice and goes through `add_line`; so the next state is one line further
 --     leaves              `build_table` does the rest, and promises it of the lines, since the table holds them
 --     exits               what is had at the end is what the contract asks
-use mathlib.Core.Path.{_≡_, refl, sym, ap, subst}
+use mathlib.Core.Path.{_≡_, refl, sym, ap}
 use Prim.Native.Nat.{ℕ, _+_, _*_, _-_, _≤_, _<_, _^_, zero-le, min}
 use native.Mathlib.Omega.{arith}
 use native.Mathlib.Numerals.{add-one}

@@ -1,5 +1,5 @@
 use borrow.Author.Needs.{needs}
-use Rattle.hexread.specs.LineLaws.{stop-short, stop-colon, stop-count, stop-end, line-inside, line-whole, line-counted, step-more, step-last, step-stop}
+use Rattle.hexread.specs.LineLaws.{stop-short, stop-colon, stop-count, stop-end, line-whole, line-counted, step-more, step-last, step-stop}
 use Rattle.hexread.proofs.line.first_line.Statement.{statement}
 use Rattle.hexread.proofs.line.first_line.Tie as tie
 

@@ -1,25 +1,25 @@
 -- `scaled_product` meets its contract.
-use mathlib.Core.Path.{_≡_}
+
 use Prim.Native.Nat.{_^_, _<_}
 use native.Mathlib.Omega.{arith}
 use borrow.Author.Needs.{needs}
 use lib.IntN.{pos, _*ℤ_}
 use mir.Syntax.{w64}
-use mir.Val.{toZ, ofZ}
+use mir.Val.{toZ}
 use mir.Facts.{toZ-ofZ, toZ-pos}
+use Rattle.laws.specs.SignedBits.{kept, read-as, Exact, exact}
 use Rattle.reading.specs.Frequency.{scaledOf}
 use Rattle.reading.proofs.frequency.scaled_product.Statement.{statement}
 use Rattle.reading.proofs.frequency.scaled_product.Tie as tie
 
--- the operands as the code reads them back
-operands : (c : tie.Start) → toZ w64 (c .args .multiplier) *ℤ toZ w64 (ofZ w64 (c .args .difference)) ≡ pos (c .args .multiplier) *ℤ c .args .difference
-operands c = let small : c .args .multiplier < 2 ^ 63 = omega arith in rw (toZ-ofZ (c .fits .difference), toZ-pos w64 small)
+product : (c : tie.Start) → Exact w64 (toZ w64 (c .args .multiplier) *ℤ kept w64 (c .args .difference)) (pos (c .args .multiplier) *ℤ c .args .difference)
+product c = let small : c .args .multiplier < 2 ^ 63 = omega arith in exact w64 (rw (toZ-ofZ (c .fits .difference), toZ-pos w64 small)) (c .pre)
 
 cast-product : tie.Need-cast-product
 cast-product c = search needs
 
 mul-product : tie.Need-mul-product
-mul-product c = rw (operands c) (c .pre)
+mul-product c = product c .fits
 
 rounded-over-2-32-requires : tie.Need-rounded-over-2-32-requires
 rounded-over-2-32-requires c κs = search needs
@@ -31,8 +31,8 @@ returns : tie.Need-returns
 unfolding scaledOf
 returns c =
     let a = c .before .before in
-    let rounding = rw (operands a, toZ-ofZ (a .pre)) at (c .before .rounded-over-2-32 .ensures) in
-    rw (toZ-ofZ (record { sfits = c .before .rounded-over-2-32 .ok }), rounding) at (c .limited .ensures)
+    let rounding = read-as w64 _ _ (c .before .rounded-over-2-32 .ok) (rw (product a .back) at (c .before .rounded-over-2-32 .ensures)) in
+    rw rounding at (c .limited .ensures)
 
 pub scaled-product-spec : {M : Type 1} → statement M
 scaled-product-spec =
