@@ -67,7 +67,7 @@ fn body_of(image: &[u8], kind: u32) -> &[u8]
     finder::part_at(image, finder::stated(image, kind))
 }
 
-fn put_image(page: &mut [u8], at: usize, image: &[u8]) -> usize
+fn put_accepted(page: &mut [u8], at: usize, image: &[u8]) -> usize
     requires { ⌜ at + acceptedRoom ≤ length (now page) ⌝ }
     requires { ⌜ layoutVerdict (now image) ≡ Verdict.Accepted ⌝ }
     ensures { λ r. ⌜ Printed at (imageWords (now (image .entry))) (now (page .entry)) r (now (page .exit)) ⌝ }
@@ -87,7 +87,7 @@ fn put_level(page: &mut [u8], at: usize, level: u32, image: &[u8]) -> usize
     let end = put_field(page, at, b"level ", level as u64);
     let verdict = panel::verdict(image, level);
     match verdict {
-        Verdict::Accepted => put_image(page, end, image),
+        Verdict::Accepted => put_accepted(page, end, image),
         Verdict::Refused(refusal) => put_refused(page, end, refusal.number, refusal.detail),
     }
 }

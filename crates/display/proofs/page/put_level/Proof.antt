@@ -16,8 +16,8 @@ verdict-requires c κs = search needs
 enum-told : tie.Need-enum-told
 enum-told c = search needs
 
-put-image-requires : tie.Need-put-image-requires
-put-image-requires c κs = (omega arith, search verdict-laid)
+put-accepted-requires : tie.Need-put-accepted-requires
+put-accepted-requires c κs = (omega arith, search verdict-laid)
 
 enum-known-verdict : tie.Need-enum-known-verdict
 enum-known-verdict c = search needs
@@ -45,7 +45,7 @@ put-level-spec =
     put-field-requires
     verdict-requires
     enum-told
-    put-image-requires
+    put-accepted-requires
     enum-known-verdict
     put-refused-requires
     same-length

@@ -1,8 +1,8 @@
 use native.Mathlib.Omega.{arith}
 use borrow.Author.Needs.{needs}
 use Rattle.display.specs.PageLaws.{image-printed}
-use Rattle.display.proofs.page.put_image.Statement.{statement}
-use Rattle.display.proofs.page.put_image.Tie as tie
+use Rattle.display.proofs.page.put_accepted.Statement.{statement}
+use Rattle.display.proofs.page.put_accepted.Tie as tie
 
 body-of-requires : tie.Need-body-of-requires
 body-of-requires c κs = search needs
@@ -40,8 +40,8 @@ same-length c = search needs
 returns : tie.Need-returns
 returns c = (search image-printed, omega arith)
 
-pub put-image-spec : {M : Type 1} → statement M
-put-image-spec =
+pub put-accepted-spec : {M : Type 1} → statement M
+put-accepted-spec =
     tie.close
     (tie.spec
     body-of-requires
