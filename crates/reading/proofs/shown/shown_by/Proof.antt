@@ -1,4 +1,4 @@
--- `show` meets its contract: a trim's zero is asked how far it lies from 0 before the pressure is trimmed.
+-- `shown_by` meets its contract: a trim's zero is asked how far it lies from 0 before the pressure is trimmed.
 use mathlib.Core.Path.{_≡_}
 use Prim.Native.Nat.{_^_, _<_}
 use native.Mathlib.Omega.{arith}
