@@ -60,8 +60,8 @@ module _ (kind : ℕ) where
               among false false true w h = absurd (false≢true h)
               among false false false w h = refl
 
-          pub known-four : kind ≡ 4 → true ≡ knows level kind
-          known-four k = rw (e, none, eq-eqb kind 4 k)
+          pub known-trim : kind ≡ 4 → true ≡ knows level kind
+          known-trim k = rw (e, none, eq-eqb kind 4 k)
 
           pub known-note : {r : Bool} → r ≡ eqb kind 129 → (kind ≡ 4 → ⊥) → r ≡ knows level kind
           known-note h k = rw (e, none, ne-eqb kind 4 k) (h ∙ sym (or-false (eqb kind 129)))

@@ -30,7 +30,7 @@ module _ (level : ℕ) (image : List ℕ) (accepted : NoneGiven (verdictTable le
   module _ (other : ℕ) (image′ : List ℕ) (is-level : Not (Not (IsLevel other))) (good : NoneGiven (layoutTable image′))
       (no-unknown : (kind : ℕ) → Not (UnknownLow other image′ kind)) (still : (kind : ℕ) → HasKind image kind → HasKind image′ kind)
       (back : (kind : ℕ) (body : List ℕ) → Knows other kind → HasBody image′ kind body → HasBody image kind body)
-      (trims : other ≡ 2 → level ≡ 2) where
+      (both-two : other ≡ 2 → level ≡ 2) where
     wrong-before : (kind : ℕ) (Wrong : List ℕ → Type 0) → Knows other kind → BodyWrong image′ kind Wrong → BodyWrong image kind Wrong
     wrong-before kind Wrong known (body, has, wrong) = (body, back kind body known has, wrong)
 
@@ -52,8 +52,9 @@ module _ (level : ℕ) (image : List ℕ) (accepted : NoneGiven (verdictTable le
                   (
                     λ d g. wrong-first 3 _ (omega arith) (omega arith) (λ w. bodies .1 .1 .0 0 (refl, w)) (g .1),
                     (
-                      λ d g. bodies .1 .1 .1 .0 0 (refl, (trims (g .1 .0), wrong-before 4 _ (inr (g .1 .0, inl refl)) (g .1 .1))),
-                      (λ d g. bodies .1 .1 .1 .1 .0 0 (refl, (trims (g .1 .0), wrong-before 129 _ (inr (g .1 .0, inr refl)) (g .1 .1))), tt),
+                      -- the rows of trim and note
+                      λ d g. bodies .1 .1 .1 .0 0 (refl, (both-two (g .1 .0), wrong-before 4 _ (inr (g .1 .0, inl refl)) (g .1 .1))),
+                      (λ d g. bodies .1 .1 .1 .1 .0 0 (refl, (both-two (g .1 .0), wrong-before 129 _ (inr (g .1 .0, inr refl)) (g .1 .1))), tt),
                     ),
                   ),
                 ),

@@ -98,15 +98,15 @@ module _ (lower higher : ℕ) (below : LowerLevel lower higher) (image : List �
   good : NoneGiven (layoutTable image)
   good = layout-accepted-exactly image .0 (accepted-readable higher image accepted .good)
 
-  trims : lower ≡ 2 → higher ≡ 2
-  trims two = ⊎-elim (λ (l, h, k). absurd (omega arith)) (λ (e, k). e) (below .grows 4 (inr (two, inl refl)))
+  both-two : lower ≡ 2 → higher ≡ 2
+  both-two two = ⊎-elim (λ (l, h, k). absurd (omega arith)) (λ (e, k). e) (below .grows 4 (inr (two, inl refl)))
 
   -- Where a panel gives a reading, a panel of a lower level gives the same one if the image holds no kind below 128 that it does not know.
   pub lower-reads : ((kind : ℕ) → Not (UnknownLow lower image kind)) → readingOf lower image counts ≡ Shown reading
   unfolding readingOf
   lower-reads none =
       let rows =
-      still-accepted higher image passes lower image (λ n. n (below .level)) good none (λ kind h. h) (λ kind body known h. h) trims in
+      still-accepted higher image passes lower image (λ n. n (below .level)) good none (λ kind h. h) (λ kind body known h. h) both-two in
       rw (verdict-accepted-exactly lower image .1 rows) (rw accepted at shown)
 
   -- Else it refuses by 9 and names the lowest such kind.

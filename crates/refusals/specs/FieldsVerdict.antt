@@ -14,7 +14,7 @@ pub record Field : Type 0 where
 abbrev pub field : (place : ℕ) (right : Bool) → Field
 field place right = record { place = place; right = right }
 
--- the place is not used yet: document 01 gives these refusals the detail 0, and T-01 makes the place their detail
+-- document 01 gives these refusals the detail 0; the place is there for a later version of the rules, in which it is the detail
 abbrev pub refusedAt : (number place : ℕ) → Verdict
 refusedAt number place = Refused (refusal number 0)
 

@@ -28,7 +28,8 @@ pub fn refused(number: u32, detail: u64) -> Verdict
     Verdict::Refused(Refusal { number, detail })
 }
 
-// The refusal of a body whose first wrong field stands at `place`. The place is not used yet: T-01 makes it the detail, which is 0 until then.
+// The refusal of a body whose first wrong field stands at `place`. Document 01 gives it the detail 0; the place is handed on for a later
+// version of the rules, in which it is the detail.
 pub fn refused_at(number: u32, place: usize) -> Verdict
     ensures { λ r. ⌜ r ≡ refusedAt number place ⌝ }
 {

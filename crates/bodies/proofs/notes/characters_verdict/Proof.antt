@@ -22,6 +22,7 @@ loop-holds c = search laws
 shared-slice-read-outside : tie.Need-shared-slice-read-outside Inv-loop μ-loop
 shared-slice-read-outside c = search laws
 
+-- a character is a byte: `search` does not look into what is known of each element of a slice
 cast-outside : tie.Need-cast-outside Inv-loop μ-loop
 cast-outside c = omega (arith, c .shared-slice-known2 .given (c .before .before .loop .i))
 

@@ -1,5 +1,5 @@
 use borrow.Author.Needs.{needs}
-use Rattle.panel.specs.LevelsLaws.{known-at-one, known-nowhere, known-first, known-four, known-note}
+use Rattle.panel.specs.LevelsLaws.{known-at-one, known-nowhere, known-first, known-trim, known-note}
 use Rattle.panel.proofs.levels.knows.Statement.{statement}
 use Rattle.panel.proofs.levels.knows.Tie as tie
 
@@ -19,7 +19,7 @@ returns-3 : tie.Need-returns-3
 returns-3 c = search (needs, known-first)
 
 returns-4 : tie.Need-returns-4
-returns-4 c = search (needs, known-four)
+returns-4 c = search (needs, known-trim)
 
 returns-5 : tie.Need-returns-5
 returns-5 c = search (needs, known-note)
