@@ -93,7 +93,7 @@ fn days_in(year: u16, month: u8) -> u8
     requires { ⌜ (1 ≤ month) × (month ≤ 12) ⌝ }
     ensures { λ r. ⌜ r ≡ daysIn year month ⌝ }
 {
-    // apart from the table, which is then a constant and not built on the stack at each call
+    // apart from the table, so that the leap year is worked out for this month only
     if month == 2 {
         return february(year);
     }
