@@ -115,9 +115,6 @@ module _ (line : ℕ) (image : List ℕ) (l : FirstKindsPresent image line) wher
         (λ f. one-kind-more more (sym (eqb-true (line + 1) (kindAt image line) f)))
         (λ f. never (rw (next-body more, f) at there)))
 
-    pub next-line : HasLine image line
-    next-line = has-line image (l .good) (lineCount image) line refl (omega (arith, next-kind-added .enough))
-
 module _ (image : List ℕ) (good : layoutVerdict image ≡ Accepted) (b : Bool) (e : b ≡ isThere (bodyOf 1 (sections image))) (t : not b ≡ false) where
   pub first-kind-there : FirstKindsPresent image 1
   first-kind-there = next-kind-added 0 image (no-kinds-yet image good) b e t
