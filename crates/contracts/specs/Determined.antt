@@ -106,9 +106,6 @@ digit-determined _ _ _ _ _ _ = answers
 pub greatest-determined : Determines hexline.greatest.ended hexline.greatest.Reads.Learnt
 greatest-determined _ _ _ _ _ _ = answers
 
-pub digits-sum-determined : Determines hexline.digits_sum.ended hexline.digits_sum.Reads.Learnt
-digits-sum-determined _ _ _ _ _ _ = answers
-
 pub judge-line-determined : Determines hexline.judge_line.ended hexline.judge_line.Reads.Learnt
 judge-line-determined _ _ _ _ _ _ = answers
 

@@ -104,9 +104,6 @@ digit-free _ _ _ = refl
 pub greatest-free : AsksNothing hexline.greatest.ended hexline.greatest.Reads.requires
 greatest-free _ _ _ = refl
 
-pub digits-sum-free : AsksNothing hexline.digits_sum.ended hexline.digits_sum.Reads.requires
-digits-sum-free _ _ _ = refl
-
 pub judge-line-free : AsksNothing hexline.judge_line.ended hexline.judge_line.Reads.requires
 judge-line-free _ _ _ = refl
 

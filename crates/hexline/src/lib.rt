@@ -10,7 +10,6 @@ mod judge;
 mod ends;
 
 pub use digits::digit;
-pub use digits::digits_sum;
 pub use digits::greatest;
 pub use ends::bare_length;
 pub use ends::line_length;

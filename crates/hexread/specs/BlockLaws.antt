@@ -1,22 +1,19 @@
 -- A block of a line's characters, taken out: what is put of it is put of the line.
 use mathlib.Core.Path.{_≡_, refl, sym, _∙_}
-use mathlib.Core.Bool.{true, false, _&&_, and-assoc}
+use mathlib.Core.Bool.{true, _&&_, and-assoc}
 use mathlib.Core.List.{List, [], _∷_, _++_}
 use Prim.Native.Nat.{ℕ, zero, suc, _+_, _-_, _*_, _%_, _≤_, _<_}
 use native.Mathlib.Omega.{arith}
 use native.Mathlib.Numerals.{add-one}
-use borrow.Author.Tests.{eq-eqb}
 use lib.Dec.{ltb}
 use lib.ListN.{length, take, drop, getD, set, length-take, length-drop, length-set, take-append-drop, drop-of-length-le}
 use lib.Seq.{drop-drop, take-suc, take-suc-set, take-all, take-append-le, getD-drop}
-use Rattle.laws.specs.Cases.{decide}
 use Rattle.laws.specs.Sums.{total}
 use Rattle.laws.specs.SumsLaws.{total-append}
 use Rattle.hextext.specs.Record.{digit, allDigits, bytesOf}
 use Rattle.hextext.specs.RecordLaws.{length-bytesOf}
-use Rattle.hexline.specs.Line.{digitsSum}
 use Rattle.hexline.specs.PairsLaws.{PairsAddUp}
-use Rattle.hexread.specs.PairsLaws.{SumOfPairs, sum-of-no-digits, sum-of-digits, PairsWritten, WritingPairs, writing-block, writing-block-failed, DataTaken}
+use Rattle.hexread.specs.PairsLaws.{PairsWritten, WritingPairs, writing-block, writing-block-failed}
 
 -- ---- the characters copied
 
@@ -104,24 +101,6 @@ module _ (l : List ℕ) (from n : ℕ) (b : List ℕ) (block : b ≡ take (n * 2
             p .wrote h ∙ rw (joined, bytesOf-append n b rest size, take-append-le n (bytesOf b) (bytesOf rest) (length-bytesOf b 0 n (omega (arith, size))));
       }
 
-  -- their sum alone
-  sum-of-part : (r : ℕ) → r ≡ digitsSum b → SumOfPairs l from n r
-  unfolding digitsSum rest
-  sum-of-part r e =
-      let even : length b % 2 ≡ 0 = omega (arith, size) in
-      let sum = rw (eq-eqb (length b % 2) 0 even) at e in
-      decide (allDigits b)
-      (λ (q : allDigits b ≡ true).
-      let is : r ≡ total (bytesOf b) % 256 = rw q at sum in
-      sum-of-digits l from n r (omega arith)
-      (record {
-        digits = rw (joined, allDigits-append b rest, q);
-        sum = rw (joined, bytesOf-append n b rest size, total-append (bytesOf b) (bytesOf rest)) (omega arith);
-      }))
-      (λ (q : allDigits b ≡ false).
-      let is : r ≡ 256 = rw q at sum in
-      rw is (sum-of-no-digits l from n (rw (joined, allDigits-append b rest, q))))
-
 -- ---- a block of 16 more
 
 module _ (l : List ℕ) (from n : ℕ) (d d′ : List ℕ) (to s i : ℕ) (h : WritingPairs l from n d d′ to s 0 i) (b : List ℕ)
@@ -135,11 +114,3 @@ module _ (l : List ℕ) (from n : ℕ) (d d′ : List ℕ) (to s i : ℕ) (h : W
 
   pub block-more : length d″ ≡ length d′ → to + n ≤ length d → r < 256 → WritingPairs l from n d d″ to ((s + r) % 256) 0 (i + 16)
   block-more e room small = writing-block l from n d d′ to s 0 i h (omega arith) 16 d″ r of-line e long room small more
-
--- ---- data that have no room
-
-pub taken-no-room : (l : List ℕ) (n : ℕ) (d : List ℕ) (to space r : ℕ) → 9 + n * 2 ≤ length l → space < n
-    → r ≡ digitsSum (take (9 + n * 2 - 9) (drop 9 l)) → DataTaken l n d d to space r
-taken-no-room l n d to space r long h e =
-    let m : 9 + n * 2 - 9 ≡ n * 2 = omega arith in
-    record { sum = sum-of-part l 9 n (take (n * 2) (drop 9 l)) refl long r (rw m at e); wrote = λ k. absurd (omega arith) }

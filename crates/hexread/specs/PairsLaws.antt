@@ -117,9 +117,3 @@ module _ (l : List ℕ) (from n : ℕ) (d d′ : List ℕ) (to s largest i : ℕ
     pub writing-rest : m ≡ n - i → PairsWritten l from n d d″ to ((s + r) % 256)
     writing-rest k =
         writing-end l from n d d″ to ((s + r) % 256) largest (i + m) (writing-block (omega arith)) (omega (arith, h .adding .within)) good
-
--- ---- their bytes in the image where they have room
-
-pub record DataTaken (l : List ℕ) (n : ℕ) (d d′ : List ℕ) (to space r : ℕ) : Type 0 where
-  pub sum : SumOfPairs l 9 n r
-  pub wrote : n ≤ space → r < 256 → d′ ≡ paste d to (bytesOf (drop 9 l)) n

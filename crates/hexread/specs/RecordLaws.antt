@@ -10,13 +10,16 @@ use lib.ListN.{length, take, drop, getD}
 use lib.Seq.{paste-zero, take-paste}
 use Rattle.laws.specs.Cases.{split, decide}
 use Rattle.laws.specs.Sums.{total}
+use Rattle.hextext.specs.declared.Header.{Header}
+use Rattle.hextext.specs.declared.TextLine.{TextLine}
+use Rattle.hextext.specs.declared.TextLine.the-variants.{Good, Bad}
 use Rattle.hextext.specs.declared.Record.{Record}
 use Rattle.hextext.specs.declared.Record.the-variants.{Data, End, Fault}
 use Rattle.hextext.specs.Record.{allDigits, bytesOf, recordBytes, countOf, dataOf, formed, summed, lineOf, typed, placed, judge}
 use Rattle.hextext.specs.RecordLaws.{byteAt, allDigits-end, bytes-total-more, bytes-total-end, formed-at, recordBytes-head, length-bytesOf}
 use Rattle.hexline.specs.TypedLaws.{end-empty, good-data-record}
 use Rattle.hexread.specs.DigitsLaws.{noDigit, Pair, pair-below, pair-byte, pair-digits, pair-none, none-after-pair}
-use Rattle.hexread.specs.PairsLaws.{DataTaken}
+use Rattle.hexread.specs.PairsLaws.{PairsWritten}
 
 -- ---- a record judged by its parts
 
@@ -110,7 +113,7 @@ module _ (l : List ℕ) (n : ℕ) (v : Counted l n) where
     unfolding judge placed lineOf
     no-digits e = taken-fault 1 l d d′ room at (rw (formed-by-digits false e))
 
-    module _ (high low kind : ℕ) (ph : Pair l 3 high) (pl : Pair l 5 low) (pk : Pair l 7 kind) (s : ℕ) (w : DataTaken l n d d′ at (room - at) s) where
+    module _ (high low kind : ℕ) (ph : Pair l 3 high) (pl : Pair l 5 low) (pk : Pair l 7 kind) (s : ℕ) (w : PairsWritten l 9 n d d′ at s) where
       taken-bad-data : 256 ≤ s → RecordTaken (Fault 1) l d d′ room at
       taken-bad-data h =
           let after-kind = none-after-pair l 7 kind pk (omega (arith, long)) (w .sum .bad h) in
@@ -190,11 +193,11 @@ module _ (l : List ℕ) (n : ℕ) (v : Counted l n) where
                 wrote = λ m t.
                     let u = good-data-record room at l m (judge-typed h ∙ sym e ∙ t) in
                     let same : n ≡ m = omega (arith, v .long, u .long) in
-                    rw (w .wrote (omega (arith, u .fits)) hs, same, data-from-nine l m (u .long) (u .counts))
+                    rw (w .wrote hs, same, data-from-nine l m (u .long) (u .counts))
                     (take-paste d at (bytesOf (drop 9 l)) m (omega (arith, u .fits)) (length-bytesOf l 9 m (omega (arith, u .long))));
                 same = λ t.
                     let none : n ≡ 0 = end-empty room at n (high * 256 + low) kind (sym e ∙ t) in
-                    rw (w .wrote (omega arith) hs, none) (sym (paste-zero d at (bytesOf (drop 9 l))));
+                    rw (w .wrote hs, none) (sym (paste-zero d at (bytesOf (drop 9 l))));
               }
 
       pub taken-by-parts : (check : ℕ) → Pair l (9 + n * 2) check → (r : Record) → r ≡ judgedParts room at n high low kind s check
@@ -210,3 +213,22 @@ module _ (l : List ℕ) (n : ℕ) (v : Counted l n) where
           (λ (q : eqb (sum room at n high low kind s check % 256) 0 ≡ false).
           let z = eqb-false (sum room at n high low kind s check % 256) 0 q in
           rw (e, ← parts-bad-sum room at n high low kind s check hs below z) (taken-bad-sum hs check pc below z))))
+
+-- ---- a line whose data have no room
+
+module _ (room at : ℕ) (l : List ℕ) (line : TextLine) (e : line ≡ lineOf l) where
+  pub judged-good : (h : Header) (r : Record) → line ≡ Good h → r ≡ typed room at (h .count) (h .address) (h .kind) → r ≡ judge room at l
+  unfolding judge placed
+  judged-good h r f g = rw (← e, f) g
+
+  pub judged-bad : (number : ℕ) → line ≡ Bad number → Fault number ≡ judge room at l
+  unfolding judge placed
+  judged-bad number f = rw (← e, f)
+
+pub taken-no-room : (l d : List ℕ) (n room at : ℕ) (r : Record) → Counted l n → room - at < n → r ≡ judge room at l → RecordTaken r l d d room at
+taken-no-room l d n room at r v h e =
+    record {
+      judged = e;
+      wrote = λ m t. let u = good-data-record room at l m (sym e ∙ t) in absurd (omega (arith, v .long, u .long, u .fits));
+      same = λ t. refl;
+    }

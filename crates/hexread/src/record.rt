@@ -2,17 +2,19 @@
 ghost use mathlib.Core.Path.{_≡_};
 ghost use Prim.Native.Nat.{_+_, _*_, _≤_};
 ghost use lib.ListN.{length, take, drop};
+ghost use Rattle.hextext.specs.Record.{judge};
 ghost use Rattle.hexread.specs.DigitsLaws.{DigitValues};
-ghost use Rattle.hexread.specs.PairsLaws.{PairsWritten, DataTaken};
+ghost use Rattle.hexread.specs.PairsLaws.{PairsWritten};
 ghost use Rattle.hexread.specs.RecordLaws.{Bounded, judgedParts, Counted, RecordTaken};
 use crate::digits::NO_DIGIT;
 use crate::digits::pair;
 use hexline::digit;
-use hexline::digits_sum;
 use hexline::greatest;
 use hexline::judge_header;
+use hexline::judge_line;
 use hextext::Header;
 use hextext::Record;
+use hextext::TextLine;
 
 // data bytes at a time
 const BLOCK: usize = 16;
@@ -81,18 +83,6 @@ fn put_data(line: &[u8], count: usize, image: &mut [u8], to: usize) -> usize
     (sum + rest) % 256
 }
 
-// The sum of the data, and these in the image where they have room; where not, the image stays.
-fn take_data(line: &[u8], count: usize, image: &mut [u8], to: usize, space: usize) -> usize
-    requires { ⌜ (9 + count * 2 ≤ length (now line)) × (to + space ≤ length (now image)) ⌝ }
-    ensures { λ r. ⌜ DataTaken (now (line .entry)) count (now (image .entry)) (now (image .exit)) to space r ⌝ }
-{
-    if count <= space {
-        return put_data(line, count, image, to);
-    }
-    let end = 9 + count * 2;
-    digits_sum(&line[9..end])
-}
-
 // A record judged by its parts, the data by their sum. One test stands for all pairs: NO_DIGIT is above the sum of six bytes.
 fn judge_parts(
     room: usize,
@@ -129,6 +119,17 @@ fn judge_parts(
     )
 }
 
+// The record of a line whose data have no room, and so are not written.
+fn judge_unwritten(line: &[u8], at: usize, room: usize) -> Record
+    ensures { λ r. ⌜ r ≡ judge room at (now (line .entry)) ⌝ }
+{
+    let judged = judge_line(line);
+    match judged {
+        TextLine::Good(header) => judge_header(room, at, header),
+        TextLine::Bad(number) => Record::Fault(number),
+    }
+}
+
 // The record of a line that is as long as its count says, judged, its data in the image where they have room.
 pub fn take_record(
     values: &[usize; 256],
@@ -141,10 +142,13 @@ pub fn take_record(
     requires { ⌜ DigitValues (now values) × Counted (now line) count × (at ≤ room) × (room ≤ length (now image)) ⌝ }
     ensures { λ r. ⌜ RecordTaken r (now (line .entry)) (now (image .entry)) (now (image .exit)) room at ⌝ }
 {
+    if room - at < count {
+        return judge_unwritten(line, at, room);
+    }
     let high = pair(values, line, 3);
     let low = pair(values, line, 5);
     let kind = pair(values, line, 7);
-    let data = take_data(line, count, image, at, room - at);
+    let data = put_data(line, count, image, at);
     let check = pair(values, line, 9 + count * 2);
     judge_parts(room, at, count, high, low, kind, data, check)
 }

@@ -47,6 +47,11 @@ multiplierRight order multiplier = cond (eqb order 0) (eqb multiplier 0) (leb 1 
 abbrev pub offsetRight : (order offset : ℕ) → Bool
 offsetRight order offset = cond (eqb order 0) (eqb offset 0) (leb offset 6553600000)
 
+-- both of one channel, the multiplier's place first
+abbrev pub prescaleFields : (order multiplier offset place : ℕ) → List Field
+prescaleFields order multiplier offset place =
+    field place (multiplierRight order multiplier) ∷ field (place + 4) (offsetRight order offset) ∷ []
+
 -- a coefficient is -2^34 to 2^34
 abbrev pub coefficientField : List ℕ → (i : ℕ) → Field
 coefficientField body i = field (coefficientPlace i) (leb (natAbs (coefficientAt body i)) (2 ^ 34))

@@ -1,20 +1,21 @@
 -- Laws of a set: what is read, and what the tests of its prescales and of its length tell.
-use mathlib.Core.Path.{_≡_, sym, ap, _∙_}
-use mathlib.Core.Bool.{Bool, true, false, not, cond, _&&_}
-use mathlib.Core.List.{List}
+use mathlib.Core.Path.{_≡_, refl, sym, ap, _∙_}
+use mathlib.Core.Bool.{Bool, true, false, _&&_}
+use mathlib.Core.List.{List, [], _∷_}
 use Prim.Native.Nat.{ℕ, _+_, _*_, _^_, _≤_}
 use native.Mathlib.Nat.{mul-le-mul}
 use native.Mathlib.Omega.{arith}
-use borrow.Author.Tests.{le-leb, lt-leb, eqb-true, eqb-false}
-use lib.Dec.{leb, ltb, eqb}
+use borrow.Author.Tests.{ne-eqb}
+use lib.Dec.{leb, eqb}
 use lib.ListN.{length}
-use Rattle.laws.specs.Cases.{decide}
-use Rattle.laws.specs.Order.{less-otherwise}
 use Rattle.numbers.specs.Fields.{numberAt}
+use Rattle.refusals.specs.declared.Refusal.{Refusal}
 use Rattle.refusals.specs.declared.Verdict.{Verdict}
-use Rattle.refusals.specs.FieldsVerdict.{fieldsVerdict}
+use Rattle.refusals.specs.declared.Verdict.the-variants.{Accepted, Refused}
+use Rattle.refusals.specs.FieldsVerdict.{Field, field, fieldsVerdict}
 use Rattle.refusals.specs.FieldsVerdictLaws.{TestResult, IsVerdict}
 use Rattle.refusals.specs.TestsLaws.{equal, unequal}
+use Rattle.refusals.specs.VerdictLaws.{never-both}
 use Rattle.sets.specs.declared.Prescales.{Prescales}
 use Rattle.sets.specs.Set.{
   prescalesOf,
@@ -22,6 +23,7 @@ use Rattle.sets.specs.Set.{
   temperatureOrder,
   coefficientCount,
   setSize,
+  prescaleFields,
   coefficientFields,
   multiplierRight,
   offsetRight,
@@ -37,29 +39,52 @@ pub set-read : (body : List ℕ) {np mp fp nt mt ft : ℕ}
 unfolding prescalesOf
 set-read body a b c d e f = rw (a, b, c, d, e, f)
 
--- ---- prescales, held to limits that are 0 where the order is 0
+-- ---- prescales: an order of 0 asks for zeros, another for the limits
 
-only-zero : (n : ℕ) → leb n 0 ≡ eqb n 0
-only-zero n =
-    decide (eqb n 0)
-    (λ e. rw (e, le-leb n 0 (let z = eqb-true n 0 e in omega arith)))
-    (λ e. rw (e, lt-leb n 0 (let z = eqb-false n 0 e in omega (arith, z))))
+module _ (order n : ℕ) (told : Bool) where
+  pub zero-multiplier-told : order ≡ 0 → TestResult (eqb n 0) told → TestResult (multiplierRight order n) told
+  zero-multiplier-told e h = rw e h
 
-module _ (order high n : ℕ) where
-  pub multiplier-held : (b : Bool) (low : ℕ) → low ≡ cond (eqb order 0) 0 1 → high ≡ cond (eqb order 0) 0 (2 ^ 30)
-      → b ≡ not (leb low n && leb n high) → b ≡ not (multiplierRight order n)
-  multiplier-held b low e f h =
-      decide (eqb order 0) (λ g. rw (h, e, f, g, le-leb 0 n (omega arith), only-zero n)) (λ g. rw (h, e, f, g))
+  pub zero-offset-told : order ≡ 0 → TestResult (eqb n 0) told → TestResult (offsetRight order n) told
+  zero-offset-told e h = rw e h
 
-  pub offset-held : high ≡ cond (eqb order 0) 0 6553600000 → ltb high n ≡ not (offsetRight order n)
-  offset-held f = decide (eqb order 0) (λ g. rw (less-otherwise n high, f, g, only-zero n)) (λ g. rw (less-otherwise n high, f, g))
+  pub multiplier-told : (order ≡ 0 → ⊥) → TestResult (leb 1 n && leb n (2 ^ 30)) told → TestResult (multiplierRight order n) told
+  multiplier-told e h = rw (ne-eqb order 0 e) h
 
-module _ (b told : Bool) (x n order field : ℕ) (e : x ≡ order) (f : n ≡ field) where
-  pub multiplier-told : b ≡ not (multiplierRight x n) → b ≡ told → TestResult (multiplierRight order field) told
-  multiplier-told g h = record { tells = sym h ∙ rw (e, f) at g }
+  pub offset-told : (order ≡ 0 → ⊥) → TestResult (leb n 6553600000) told → TestResult (offsetRight order n) told
+  offset-told e h = rw (ne-eqb order 0 e) h
 
-  pub offset-told : b ≡ not (offsetRight x n) → b ≡ told → TestResult (offsetRight order field) told
-  offset-told g h = record { tells = sym h ∙ rw (e, f) at g }
+-- two fields judged before others
+module _ (number place next : ℕ) where
+  both-right : (a b : Bool) (fields : List Field) → fieldsVerdict number (field place a ∷ field next b ∷ []) ≡ Accepted
+      → fieldsVerdict number fields ≡ fieldsVerdict number (field place a ∷ field next b ∷ fields)
+  unfolding fieldsVerdict
+  both-right true true fields e = refl
+  both-right true false fields e = never-both refl e
+  both-right false b fields e = never-both refl e
+
+  one-wrong : (a b : Bool) (fields : List Field) (r : Refusal) → fieldsVerdict number (field place a ∷ field next b ∷ []) ≡ Refused r
+      → fieldsVerdict number (field place a ∷ field next b ∷ []) ≡ fieldsVerdict number (field place a ∷ field next b ∷ fields)
+  unfolding fieldsVerdict
+  one-wrong true true fields r e = never-both e refl
+  one-wrong true false fields r e = refl
+  one-wrong false b fields r e = refl
+
+-- v is the code's verdict on a prescale, of which it read the order x, the multiplier m and the offset o
+module _ (number place next x m o order multiplier offset : ℕ) (v : Verdict) (h : v ≡ fieldsVerdict number (prescaleFields x m o place))
+    (e : x ≡ order) (f : m ≡ multiplier) (g : o ≡ offset) (p : place + 4 ≡ next) (fields : List Field) where
+  judged : v ≡ fieldsVerdict number (field place (multiplierRight order multiplier) ∷ field next (offsetRight order offset) ∷ [])
+  judged = rw (e, f, g, p) at h
+
+  pub prescale-right : {verdict : Verdict} → v ≡ Accepted → IsVerdict number fields verdict
+      → IsVerdict number (field place (multiplierRight order multiplier) ∷ field next (offsetRight order offset) ∷ fields) verdict
+  prescale-right k i =
+      record { is = i .is ∙ both-right number place next (multiplierRight order multiplier) (offsetRight order offset) fields (sym judged ∙ k) }
+
+  pub prescale-wrong : (r : Refusal) → v ≡ Refused r
+      → IsVerdict number (field place (multiplierRight order multiplier) ∷ field next (offsetRight order offset) ∷ fields) v
+  prescale-wrong r k =
+      record { is = judged ∙ one-wrong number place next (multiplierRight order multiplier) (offsetRight order offset) fields r (sym judged ∙ k) }
 
 -- ---- the length that the orders ask for; x and y are the orders that the code read
 

@@ -17,12 +17,10 @@ use refusals::refused_at;
 use whole::beyond;
 use whole::outside;
 ghost use mathlib.Core.Path.{_≡_};
-ghost use mathlib.Core.Bool.{not, cond};
 ghost use Prim.Native.Nat.{_+_, _*_, _≤_};
-ghost use lib.Dec.{eqb};
 ghost use lib.ListN.{length, drop};
 ghost use Rattle.refusals.specs.FieldsVerdict.{fieldsVerdict};
-ghost use Rattle.sets.specs.Set.{prescalesOf, setFields, setVerdict, multiplierRight, offsetRight, coefficientFields};
+ghost use Rattle.sets.specs.Set.{prescalesOf, setFields, setVerdict, prescaleFields, coefficientFields};
 ghost use Rattle.sets.specs.Preconditions.{OrdersRead};
 
 pub fn read_prescales(body: &[u8]) -> Prescales
@@ -77,18 +75,20 @@ fn prescales_verdict(body: &[u8], pressure: u8, temperature: u8, number: u32) ->
     if body.len() != SET_HEAD_SIZE + COEFFICIENT_SIZE * count {
         return refused_at(number, body.len());
     }
-    if multiplier_wrong(pressure, number4(body, 4)) {
-        return refused_at(number, 4);
-    }
-    if offset_wrong(pressure, number8(body, 8)) {
-        return refused_at(number, 8);
-    }
-    if multiplier_wrong(temperature, number4(body, 16)) {
-        return refused_at(number, 16);
-    }
-    if offset_wrong(temperature, number8(body, 20)) {
-        return refused_at(number, 20);
-    }
+    let pressure_judged = prescale_verdict(pressure, number4(body, 4), number8(body, 8), number, 4);
+    let Verdict::Accepted = pressure_judged else {
+        return pressure_judged;
+    };
+    let temperature_judged = prescale_verdict(
+        temperature,
+        number4(body, 16),
+        number8(body, 20),
+        number,
+        16,
+    );
+    let Verdict::Accepted = temperature_judged else {
+        return temperature_judged;
+    };
     coefficients_verdict(body, count, number)
 }
 
@@ -99,27 +99,27 @@ fn coefficient_count(pressure: u8, temperature: u8) -> usize
     (pressure as usize + 1) * (temperature as usize + 1)
 }
 
-// A limit of a prescale, which is 0 where the order is 0.
-fn limit(order: u8, otherwise: u64) -> u64
-    ensures { λ r. ⌜ r ≡ cond (eqb order 0) 0 otherwise ⌝ }
+// Multiplier and offset of one channel, which stand at `place` and four bytes on.
+fn prescale_verdict(order: u8, multiplier: u32, offset: u64, number: u32, place: usize) -> Verdict
+    requires { ⌜ place ≤ 16 ⌝ }
+    ensures { λ r. ⌜ r ≡ fieldsVerdict number (prescaleFields order multiplier offset place) ⌝ }
 {
-    if order == 0 { 0 } else { otherwise }
-}
-
-fn multiplier_wrong(order: u8, multiplier: u32) -> bool
-    ensures { λ r. ⌜ r ≡ not (multiplierRight order multiplier) ⌝ }
-{
-    outside(
-        limit(order, 1),
-        multiplier as u64,
-        limit(order, LARGEST_MULTIPLIER),
-    )
-}
-
-fn offset_wrong(order: u8, offset: u64) -> bool
-    ensures { λ r. ⌜ r ≡ not (offsetRight order offset) ⌝ }
-{
-    limit(order, LARGEST_OFFSET) < offset
+    if order == 0 {
+        if multiplier != 0 {
+            return refused_at(number, place);
+        }
+        if offset != 0 {
+            return refused_at(number, place + 4);
+        }
+        return Verdict::Accepted;
+    }
+    if outside(1, multiplier as u64, LARGEST_MULTIPLIER) {
+        return refused_at(number, place);
+    }
+    if LARGEST_OFFSET < offset {
+        return refused_at(number, place + 4);
+    }
+    Verdict::Accepted
 }
 
 fn coefficients_verdict(body: &[u8], count: usize, number: u32) -> Verdict

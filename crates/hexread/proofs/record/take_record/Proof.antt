@@ -1,7 +1,16 @@
 use borrow.Author.Needs.{needs}
-use Rattle.hexread.specs.RecordLaws.{taken-by-parts}
+use Rattle.hexread.specs.RecordLaws.{taken-no-room, taken-by-parts}
 use Rattle.hexread.proofs.record.take_record.Statement.{statement}
 use Rattle.hexread.proofs.record.take_record.Tie as tie
+
+sub-if1 : tie.Need-sub-if1
+sub-if1 c = search needs
+
+judge-unwritten-requires : tie.Need-judge-unwritten-requires
+judge-unwritten-requires c κs = search needs
+
+returns : tie.Need-returns
+returns c = search (needs, taken-no-room)
 
 pair-requires : tie.Need-pair-requires
 pair-requires c κs = search needs
@@ -12,11 +21,8 @@ pair-requires-2 c κs = search needs
 pair-requires-3 : tie.Need-pair-requires-3
 pair-requires-3 c κs = search needs
 
-sub-take-data : tie.Need-sub-take-data
-sub-take-data c = search needs
-
-take-data-requires : tie.Need-take-data-requires
-take-data-requires c κs = search needs
+put-data-requires : tie.Need-put-data-requires
+put-data-requires c κs = search needs
 
 mul-pair : tie.Need-mul-pair
 mul-pair c = search needs
@@ -25,7 +31,7 @@ add-pair : tie.Need-add-pair
 add-pair c = search needs
 
 pair-requires-4 : tie.Need-pair-requires-4
-pair-requires-4 c κs = (search needs, search needs)
+pair-requires-4 c κs = search needs
 
 judge-parts-requires : tie.Need-judge-parts-requires
 judge-parts-requires c κs = search needs
@@ -33,21 +39,23 @@ judge-parts-requires c κs = search needs
 same-length : tie.Need-same-length
 same-length c = search needs
 
-returns : tie.Need-returns
-returns c = search (needs, taken-by-parts)
+returns-2 : tie.Need-returns-2
+returns-2 c = search (needs, taken-by-parts)
 
 pub take-record-spec : {M : Type 1} → statement M
 take-record-spec =
     tie.close
     (tie.spec
+    sub-if1
+    judge-unwritten-requires
+    returns
     pair-requires
     pair-requires-2
     pair-requires-3
-    sub-take-data
-    take-data-requires
+    put-data-requires
     mul-pair
     add-pair
     pair-requires-4
     judge-parts-requires
     same-length
-    returns)
+    returns-2)

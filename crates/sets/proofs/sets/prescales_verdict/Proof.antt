@@ -1,11 +1,11 @@
 use borrow.Author.Needs.{needs}
 use Rattle.refusals.specs.TestsLaws.{fields}
 use Rattle.sets.specs.Set.{setFields}
-use Rattle.sets.specs.SetLaws.{length-told, other-length-told, multiplier-told, offset-told, coefficients-verdict-is}
+use Rattle.sets.specs.SetLaws.{length-told, other-length-told, prescale-right, prescale-wrong, coefficients-verdict-is}
 use Rattle.sets.proofs.sets.prescales_verdict.Statement.{statement}
 use Rattle.sets.proofs.sets.prescales_verdict.Tie as tie
 
-ruleset laws = (fields, length-told, other-length-told, multiplier-told, offset-told, coefficients-verdict-is)
+ruleset laws = (fields, length-told, other-length-told, prescale-right, prescale-wrong, coefficients-verdict-is)
 
 coefficient-count-requires : tie.Need-coefficient-count-requires
 coefficient-count-requires c κs = search needs
@@ -21,66 +21,52 @@ refused-at-requires c κs = search needs
 
 returns : tie.Need-returns
 unfolding setFields
-returns c = search laws depth 12 fits 3000
+returns c = search laws depth 12
 
 number4-requires : tie.Need-number4-requires
 number4-requires c κs = search needs
 
-multiplier-wrong-requires : tie.Need-multiplier-wrong-requires
-multiplier-wrong-requires c κs = search needs
-
-refused-at-requires-2 : tie.Need-refused-at-requires-2
-refused-at-requires-2 c κs = search needs
-
-returns-2 : tie.Need-returns-2
-unfolding setFields
-returns-2 c = search laws depth 12 fits 3000
-
 number8-requires : tie.Need-number8-requires
 number8-requires c κs = search needs
 
-offset-wrong-requires : tie.Need-offset-wrong-requires
-offset-wrong-requires c κs = search needs
+prescale-verdict-requires : tie.Need-prescale-verdict-requires
+prescale-verdict-requires c κs = search needs
 
-refused-at-requires-3 : tie.Need-refused-at-requires-3
-refused-at-requires-3 c κs = search needs
+enum-told : tie.Need-enum-told
+enum-told c = search needs
 
-returns-3 : tie.Need-returns-3
+enum-told-2 : tie.Need-enum-told-2
+enum-told-2 c = search needs
+
+returns-2 : tie.Need-returns-2
 unfolding setFields
-returns-3 c = search laws depth 12 fits 3000
+returns-2 c = search laws depth 12
 
 number4-requires-2 : tie.Need-number4-requires-2
 number4-requires-2 c κs = search needs
 
-multiplier-wrong-requires-2 : tie.Need-multiplier-wrong-requires-2
-multiplier-wrong-requires-2 c κs = search needs
-
-refused-at-requires-4 : tie.Need-refused-at-requires-4
-refused-at-requires-4 c κs = search needs
-
-returns-4 : tie.Need-returns-4
-unfolding setFields
-returns-4 c = search laws depth 12 fits 3000
-
 number8-requires-2 : tie.Need-number8-requires-2
 number8-requires-2 c κs = search needs
 
-offset-wrong-requires-2 : tie.Need-offset-wrong-requires-2
-offset-wrong-requires-2 c κs = search needs
+prescale-verdict-requires-2 : tie.Need-prescale-verdict-requires-2
+prescale-verdict-requires-2 c κs = search needs
 
-refused-at-requires-5 : tie.Need-refused-at-requires-5
-refused-at-requires-5 c κs = search needs
+enum-told-3 : tie.Need-enum-told-3
+enum-told-3 c = search needs
 
-returns-5 : tie.Need-returns-5
+enum-told-4 : tie.Need-enum-told-4
+enum-told-4 c = search needs
+
+returns-3 : tie.Need-returns-3
 unfolding setFields
-returns-5 c = search laws depth 12 fits 3000
+returns-3 c = search laws depth 12
 
 coefficients-verdict-requires : tie.Need-coefficients-verdict-requires
 coefficients-verdict-requires c κs = search needs
 
-returns-6 : tie.Need-returns-6
+returns-4 : tie.Need-returns-4
 unfolding setFields
-returns-6 c = search laws depth 12 fits 3000
+returns-4 c = search laws depth 12
 
 pub prescales-verdict-spec : {M : Type 1} → statement M
 prescales-verdict-spec =
@@ -92,20 +78,16 @@ prescales-verdict-spec =
     refused-at-requires
     returns
     number4-requires
-    multiplier-wrong-requires
-    refused-at-requires-2
-    returns-2
     number8-requires
-    offset-wrong-requires
-    refused-at-requires-3
-    returns-3
+    prescale-verdict-requires
+    enum-told
+    enum-told-2
+    returns-2
     number4-requires-2
-    multiplier-wrong-requires-2
-    refused-at-requires-4
-    returns-4
     number8-requires-2
-    offset-wrong-requires-2
-    refused-at-requires-5
-    returns-5
+    prescale-verdict-requires-2
+    enum-told-3
+    enum-told-4
+    returns-3
     coefficients-verdict-requires
-    returns-6)
+    returns-4)

@@ -1,0 +1,33 @@
+use borrow.Author.Needs.{needs}
+use Rattle.hexread.specs.RecordLaws.{judged-good, judged-bad}
+use Rattle.hexread.proofs.record.judge_unwritten.Statement.{statement}
+use Rattle.hexread.proofs.record.judge_unwritten.Tie as tie
+
+judge-line-requires : tie.Need-judge-line-requires
+judge-line-requires c κs = search needs
+
+enum-known-judged : tie.Need-enum-known-judged
+enum-known-judged c = search needs
+
+judge-header-requires : tie.Need-judge-header-requires
+judge-header-requires c κs = search needs
+
+enum-known-judged-2 : tie.Need-enum-known-judged-2
+enum-known-judged-2 c = search needs
+
+returns : tie.Need-returns
+returns c = search (needs, judged-good)
+
+returns-2 : tie.Need-returns-2
+returns-2 c = search (needs, judged-bad)
+
+pub judge-unwritten-spec : {M : Type 1} → statement M
+judge-unwritten-spec =
+    tie.close
+    (tie.spec
+    judge-line-requires
+    enum-known-judged
+    judge-header-requires
+    enum-known-judged-2
+    returns
+    returns-2)
