@@ -133,7 +133,7 @@ def dump_fields(kind, offset):
         data = IMAGE[offset + inner : offset + inner + struct.calcsize("<" + letter)]
         (value,) = struct.unpack("<" + letter, data)
         says = meaning(part, name, value)
-        number = str(value) if name == "year" else f"{value:,}"
+        number = str(value) if name in ("serial", "year") else f"{value:,}"
         joined = " " if says in ("°C", "psi") else ": "
         words = name if name == "zero byte" else f"{name} {number}" + (joined + says if says else "")
         dump_line(offset + inner, inner, data, words)
@@ -175,8 +175,8 @@ def print_stored():
         for i, row in enumerate(fit):
             for j, coefficient in enumerate(row):
                 name = "ABCDE"[i] + str(j)
-                hertz = f" for 1 Hz^{i + j}" if i + j > 1 else " for 1 Hz" * (i + j)
-                print(f"| {part} {name} | {coefficient} {MEASURED_IN[part]}{hertz} | {GAUGE[part][name]:,} |")
+                term = coefficient + f" × (FP - {PRESSURE_SCALE[0]:,})" * i + f" × (FT - {TEMPERATURE_SCALE[0]:,})" * j
+                print(f"| {part} {name} | {term} {MEASURED_IN[part]} | {GAUGE[part][name]:,} |")
 
 
 def fitted(part):
@@ -203,7 +203,7 @@ def print_reading():
     worked.print_set(GAUGE, COUNTS, "temperature")
     print(f"\nThe temperature is {temperature:,}, in 1/65,536 °C: {temperature / 65536:,.4f} °C.", end=" ")
     print(f"The fit itself gives {float(fitted('temperature')):,.4f} °C.", end=" ")
-    print(f"It lies within {identity['TMIN']} to {identity['TMAX']} °C, and the pressure", end=" ")
+    print(f"The temperature lies within {identity['TMIN']} to {identity['TMAX']} °C, and the pressure", end=" ")
     print(f"within {identity['PMIN']:,} to {identity['PMAX']:,} psi, so the mark is {mark}. The trim:\n")
     worked.print_trim(GAUGE, COUNTS)
     print(f"\nThe panel shows {shown:,}, in 1/65,536 {UNIT}: {shown / 65536:,.3f} {UNIT}.")
