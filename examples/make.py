@@ -1,5 +1,5 @@
 #!/usr/bin/env python3
-"""Makes the example texts, from document 01 and from the typical values of source document 001, Table 2.
+"""Makes the example texts, by the rules of docs/FORMAT.md and of the typical values in the gauge maker's manual.
 
 Usage: python3 examples/make.py [DIRECTORY]. The CR LF example is objcopy's (Debian package binutils); it is left out without it.
 """
@@ -48,23 +48,27 @@ def typical_sections(serial):
 
 
 def image(sections):
-    place = 2 + 8 * len(sections)
+    """The image of sections: a body for each kind."""
+    offset = 2 + 8 * len(sections)
     contents, bodies = bytes([0x51, len(sections)]), b""
     for kind in sorted(sections):
         body = sections[kind]
-        contents += struct.pack("<BBHHH", kind, 0, place, len(body), sum(body) % 65536)
+        contents += struct.pack("<BBHHH", kind, 0, offset, len(body), sum(body) % 65536)
         bodies += body
-        place += len(body)
+        offset += len(body)
     return contents + bodies
 
 
-def record(address, kind, data):
-    fields = bytes([len(data)]) + struct.pack(">H", address) + bytes([kind]) + data
+def record(address, record_type, data):
+    """The line of a record, with its checksum and its line end."""
+    fields = bytes([len(data)]) + struct.pack(">H", address) + bytes([record_type]) + data
     return ":" + (fields + bytes([-sum(fields) % 256])).hex().upper() + "\n"
 
 
 def text(data):
-    return "".join(record(a, 0, data[a : a + 16]) for a in range(0, len(data), 16)) + record(0, 1, b"")
+    """The text of an image: records of 16 bytes, a shorter one for the rest, the end record."""
+    starts = range(0, len(data), 16)
+    return "".join(record(start, 0, data[start : start + 16]) for start in starts) + record(0, 1, b"")
 
 
 def main():

@@ -1,12 +1,14 @@
 #!/usr/bin/env python3
-"""A calibration image in which every number matters, and its readings, worked out after document 01 alone in whole numbers.
+"""A calibration image in which every number matters, and its readings, worked out in whole numbers by the rules of docs/FORMAT.md.
 
 Usage: python3 examples/worked.py WORD, which prints
     image      the bytes as antt lists, as they stand in crates/paper/specs/WorkedImage.antt
     readings   the readings as the rows of a table, as they stand in crates/promises/specs/WorkedReadings.antt
-    steps      the first reading and document 01's polynomial example step by step, as in docs/WORKED.md
-    table      all readings, as in docs/WORKED.md
     errors     how many readings change with an easy error, or with one more or one less in a number of the image
+or a table of docs/WORKED.md:
+    frequencies, prescales, pressure, temperature, trim    the steps of the first reading
+    polynomial                                             the steps of the example of the polynomial
+    shown, refused                                         all readings, and all refusals
 """
 import sys
 
@@ -231,47 +233,58 @@ def print_sum(x, terms, names):
     return running
 
 
-def print_set(xp, xt, grid):
+def print_grid(xp, xt, grid):
     print("| running sum × X | product | / 2^24 | rounded | plus | running sum |\n|---|---|---|---|---|---|")
     names = [[f"{row}{place}" for place in range(len(grid[0]))] for row in "ABCDE"[: len(grid)]]
     sums = [print_sum(xt, terms, name) for terms, name in zip(grid, names)]
     print_sum(xp, sums, [f"row {name[0][0]}" for name in names])
-    print()
 
 
-def print_steps():
-    counts = READINGS[0][2:]
-    frequencies = [frequency(1, *counts[:2]), frequency(2, *counts[2:])]
+def print_frequencies(counts):
     print("| channel | NS | NR | 7,200,000 × 65,536 × NS | / NR | remainder | F |\n|---|---|---|---|---|---|---|")
-    for channel, ns, nr, f in (("pressure", *counts[:2], frequencies[0]), ("temperature", *counts[2:], frequencies[1])):
+    for channel, name in ((1, "pressure"), (2, "temperature")):
+        ns, nr = counts[2 * channel - 2 : 2 * channel]
         n = 7200000 * 65536 * ns
-        print(f"| {channel} | {ns:,} | {nr:,} | {n:,} | {n // nr:,} | {n % nr:,} | {f:,} |")
-    print("\n| set | F | F0 | F - F0 | M | M × (F - F0) | / 2^32 | X |\n|---|---|---|---|---|---|---|---|")
+        print(f"| {name} | {ns:,} | {nr:,} | {n:,} | {n // nr:,} | {n % nr:,} | {frequency(channel, ns, nr):,} |")
+
+
+def print_prescales(gauge, counts):
+    fp, ft = frequency(1, *counts[:2]), frequency(2, *counts[2:])
+    print("| set | F | F0 | F - F0 | M | M × (F - F0) | / 2^32 | X |\n|---|---|---|---|---|---|---|---|")
     for name in ("pressure", "temperature"):
-        for x, f, multiplier, offset in (("XP", frequencies[0], "MP", "FP0"), ("XT", frequencies[1], "MT", "FT0")):
-            m, f0 = GAUGE[name][multiplier], GAUGE[name][offset]
-            print(f"| {name} {x} | {f:,} | {f0:,} | {f - f0:,} | {m:,} | {m * (f - f0):,} | {quotient(m * (f - f0), 2**32)} |")
-    print()
-    for name, first in (("pressure", 1), ("temperature", 3)):
-        numbers = GAUGE[name]
-        xp = prescaled(first, numbers["MP"], numbers["FP0"], frequencies[0])
-        xt = prescaled(first + 1, numbers["MT"], numbers["FT0"], frequencies[1])
-        print_set(xp, xt, rows(numbers))
-    pressure, shown, *_ = reading(GAUGE, counts)
-    product = TRIM["span"] * pressure
+        numbers = gauge[name]
+        for x, f, order, multiplier, offset in (("XP", fp, "NP", "MP", "FP0"), ("XT", ft, "NT", "MT", "FT0")):
+            if numbers[order]:
+                m, f0 = numbers[multiplier], numbers[offset]
+                print(f"| {name} {x} | {f:,} | {f0:,} | {f - f0:,} | {m:,} | {m * (f - f0):,} | {quotient(m * (f - f0), 2**32)} |")
+
+
+def print_set(gauge, counts, name):
+    numbers, first = gauge[name], {"pressure": 1, "temperature": 3}[name]
+    xp = prescaled(first, numbers["MP"], numbers["FP0"], frequency(1, *counts[:2]))
+    xt = prescaled(first + 1, numbers["MT"], numbers["FT0"], frequency(2, *counts[2:]))
+    print_grid(xp, xt, rows(numbers))
+
+
+def print_trim(gauge, counts):
+    pressure, shown, *_ = reading(gauge, counts)
+    span, zero = gauge["trim"]["span"], gauge["trim"]["zero"]
+    product = span * pressure
     print("| span × pressure | product | / 2^28 | rounded | plus | shown pressure |\n|---|---|---|---|---|---|")
-    print(f"| {TRIM['span']:,} × {pressure:,} | {product:,} | {quotient(product, 2**28)} | zero {TRIM['zero']:,} | {shown:,} |\n")
-    print_set(2**23, -(2**23), [[6553600, 65536], [131072, 3]])
+    print(f"| {span:,} × {pressure:,} | {product:,} | {quotient(product, 2**28)} | zero {zero:,} | {shown:,} |")
 
 
-def print_table():
+def print_shown():
     print("| reading | pressure NS, NR | temperature NS, NR | pressure before trim | shown, bar | temperature | mark | what it shows |")
     print("|---|---|---|---|---|---|---|---|")
     for name, words, *counts in READINGS:
         pressure, shown, temperature, _, marked = reading(GAUGE, counts)
         places = "{:,}, {:,} | {:,}, {:,}".format(*counts)
         print(f"| `{name}` | {places} | {pressure:,} | {shown:,} | {temperature:,} | {marked} | {words} |")
-    print("\n| refused | pressure NS, NR | temperature NS, NR | number, detail | why |\n|---|---|---|---|---|")
+
+
+def print_refused():
+    print("| refused | pressure NS, NR | temperature NS, NR | number, detail | why |\n|---|---|---|---|---|")
     for name, words, *counts in REFUSED:
         places = "{:,}, {:,} | {:,}, {:,}".format(*counts)
         print("| `{}` | {} | {} {} | {} |".format(name, places, *reading(GAUGE, counts), words))
@@ -317,12 +330,22 @@ def print_errors():
                 print(f"{part} {key}: one more changes {more}, one less {less}")
 
 
-def main(word):
-    {"image": print_image, "readings": print_readings, "steps": print_steps, "table": print_table, "errors": print_errors}[word]()
-
+FIRST = READINGS[0][2:]
+WORDS = {
+    "image": print_image,
+    "readings": print_readings,
+    "frequencies": lambda: print_frequencies(FIRST),
+    "prescales": lambda: print_prescales(GAUGE, FIRST),
+    "pressure": lambda: print_set(GAUGE, FIRST, "pressure"),
+    "temperature": lambda: print_set(GAUGE, FIRST, "temperature"),
+    "trim": lambda: print_trim(GAUGE, FIRST),
+    "polynomial": lambda: print_grid(2**23, -(2**23), [[6553600, 65536], [131072, 3]]),
+    "shown": print_shown,
+    "refused": print_refused,
+    "errors": print_errors,
+}
 
 if __name__ == "__main__":
-    if len(sys.argv) == 2:
-        main(sys.argv[1])
-    else:
-        print(__doc__)
+    if len(sys.argv) != 2 or sys.argv[1] not in WORDS:
+        sys.exit(__doc__)
+    WORDS[sys.argv[1]]()

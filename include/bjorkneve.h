@@ -1,5 +1,7 @@
 /* Bjorkneve: from the calibration images of quartz gauges to pressure and temperature. Printed by tools/header: do not edit.
  *
+ * docs/FORMAT.md says what a text and an image are, and how a reading is worked out.
+ *
  * Every call answers, whatever the bytes and numbers are. An answer's number is 0 on success. Any other is a refusal, which
  * docs/NUMBERS.md explains with its detail: the answer's other values are then 0, and the buffer lent for the result holds nothing
  * but zeros. On success such a buffer holds the result, as many bytes as the answer's length says, and zeros after it. That length

@@ -1,5 +1,5 @@
 //! A safe door to the C archive libbjorkneve.a: calibration texts, images and
-//! readings by the rules of document 01. Every function answers for every
+//! readings by the rules of docs/FORMAT.md. Every function answers for every
 //! input; none panics or allocates.
 //!
 //! ```

@@ -25,7 +25,7 @@ pub mod refused {
 /// ```
 #[derive(Debug, Clone, Copy, PartialEq, Eq)]
 pub struct Refusal {
-    /// The number of the table in document 01, one of [`refused`].
+    /// The number on the fault card, one of [`refused`].
     pub number: u32,
     /// The line, kind, channel or set the number speaks of, or 0.
     pub detail: u64,
