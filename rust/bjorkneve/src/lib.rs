@@ -26,6 +26,7 @@
 #![no_std]
 #![warn(missing_docs)]
 
+pub mod fault_card;
 #[doc(hidden)]
 pub mod raw;
 

@@ -1,0 +1,1 @@
+//! Tests of the whole program, without a process.
