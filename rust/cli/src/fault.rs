@@ -1,6 +1,8 @@
 //! Where in a HEX text the fault is that the library has named by number and
 //! line: what is wrong there, and which characters to point at.
 
+use crate::line::{Line, ADDRESS, COUNT, TYPE, WITHOUT_DATA};
+use crate::sections::counted;
 use bjorkneve::{refused, Refusal, LARGEST_IMAGE};
 use std::ops::Range;
 
@@ -14,12 +16,6 @@ pub struct Fault<'a> {
     /// The characters at fault, one past the line's end where one is missing.
     pub pointed: Range<usize>,
 }
-
-// A record's characters: colon, count, address, type, data, checksum.
-const COUNT: Range<usize> = 1..3;
-const ADDRESS: Range<usize> = 3..7;
-const TYPE: Range<usize> = 7..9;
-const WITHOUT_DATA: usize = 11;
 
 const LINE_ENDS: &str = "Every line, the last one too, must end with LF or CR LF.";
 
@@ -82,41 +78,6 @@ pub fn fault(text: &[u8], refusal: Refusal) -> Fault<'_> {
     }
 }
 
-struct Line<'a> {
-    /// Without the line end.
-    characters: &'a [u8],
-    /// By LF or CR LF.
-    ended: bool,
-}
-
-impl<'a> Line<'a> {
-    fn new(whole: &'a [u8]) -> Self {
-        let bare = whole.strip_suffix(b"\n");
-        let characters = bare.map_or(whole, |bare| bare.strip_suffix(b"\r").unwrap_or(bare));
-        Line {
-            characters,
-            ended: bare.is_some(),
-        }
-    }
-
-    /// The number in these columns; nothing where they aren't all digits.
-    fn number(&self, columns: Range<usize>) -> Option<usize> {
-        let digits = self.characters.get(columns)?;
-        digits.iter().try_fold(0, |value, digit| {
-            Some(16 * value + (*digit as char).to_digit(16)? as usize)
-        })
-    }
-
-    /// The count of a good line.
-    fn count(&self) -> usize {
-        self.number(COUNT).unwrap_or(0)
-    }
-
-    fn is_end(&self) -> bool {
-        self.number(TYPE) == Some(1)
-    }
-}
-
 /// The first fault of form.
 fn not_a_record(line: &Line) -> (String, Range<usize>) {
     let characters = line.characters;
@@ -140,6 +101,10 @@ fn not_a_record(line: &Line) -> (String, Range<usize>) {
             place..place + 1,
         );
     }
+    let by_its_count = format!(
+        "by its count of {} it has {asked} characters",
+        counted(line.count(), "data byte")
+    );
     if length < asked {
         let end = if line.ended {
             "The line ends"
@@ -148,7 +113,7 @@ fn not_a_record(line: &Line) -> (String, Range<usize>) {
         };
         let words = match count {
             None => format!("{end} before its count is told."),
-            Some(count) => format!("{end} too early: by its count of {count} data bytes it has {asked} characters, and here are {length}."),
+            Some(_) => format!("{end} too early: {by_its_count}, and here are {length}."),
         };
         return (words, length..length + 1);
     }
@@ -162,10 +127,10 @@ fn not_a_record(line: &Line) -> (String, Range<usize>) {
             format!("A CR stands here without an LF directly after it. {LINE_ENDS}"),
             asked..asked + 1,
         ),
-        _ => {
-            let words = format!("The line goes on too long: by its count of {} data bytes it has {asked} characters.", line.count());
-            (words, asked..length)
-        }
+        _ => (
+            format!("The line goes on too long: {by_its_count}."),
+            asked..length,
+        ),
     }
 }
 

@@ -11,6 +11,7 @@ mod fault;
 mod gauge;
 mod help;
 mod levels;
+mod line;
 mod reading;
 mod refusal;
 mod sections;
