@@ -1,4 +1,4 @@
-//! The fault card, docs/NUMBERS.md, for programs that print it.
+// What the fault card is made of.
 
 use crate::card;
 
