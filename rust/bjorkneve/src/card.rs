@@ -88,7 +88,7 @@ tables! {
         "Ask the supplier for plain records: type 00 from address 0 on without a gap, 1 to 255 bytes each, then type 01.";
     4 TOO_LARGE:
         "The image in the text has more than 4,096 bytes, or more than the panel has lent for it"
-        ". Or the show program was given a text of more than 65,536 bytes.";
+        ". Or show, words or reading was given a text of more than 65,536 bytes.";
         Detail::Is("the line of the first record too many; 0 from the writer, and for a text that is too long");
         "It isn't a calibration image, or it is the wrong file.";
 }

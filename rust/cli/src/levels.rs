@@ -29,11 +29,11 @@ pub fn listed(levels: &[u32]) -> String {
 }
 
 /// A sentence's start, as `Level 1 accepts` or `Levels 1 and 2 accept`.
-pub fn that(levels: &[u32], do_this: &str) -> String {
+pub fn with_verb(levels: &[u32], verb: &str) -> String {
     let (one, more) = if levels.len() == 1 {
         ("s", "")
     } else {
         ("", "s")
     };
-    format!("Level{more} {} {do_this}{one}", listed(levels))
+    format!("Level{more} {} {verb}{one}", listed(levels))
 }

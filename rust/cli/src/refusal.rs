@@ -24,7 +24,7 @@ pub enum Refused<'a> {
 pub fn tell(out: &mut impl Write, what: Refused, refusal: Refusal) -> io::Result<Status> {
     let told = match what {
         Refused::Text(_) => "The text is refused".into(),
-        Refused::Image(_, by) => levels::that(by, "refuse") + " the image",
+        Refused::Image(_, by) => levels::with_verb(by, "refuse") + " the image",
         Refused::Reading(_) => "The reading is refused".into(),
     };
     writeln!(

@@ -60,7 +60,7 @@ pub fn words(out: &mut impl Write, text: &[u8], asked: &[u32]) -> io::Result<Sta
     let mut status = Status::Answered;
     for (levels, verdict) in verdicts(image, asked) {
         match verdict {
-            Ok(()) => writeln!(out, "{} the image.", levels::that(&levels, "accept"))?,
+            Ok(()) => writeln!(out, "{} the image.", levels::with_verb(&levels, "accept"))?,
             Err(refusal) => status = tell(out, Refused::Image(image, &levels), refusal)?,
         }
     }

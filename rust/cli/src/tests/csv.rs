@@ -5,7 +5,8 @@ use crate::csv::readings;
 use crate::status::{Failure, Status};
 use crate::text;
 use bjorkneve::LARGEST_IMAGE;
-use std::io::{self, BufReader, Read};
+use std::cell::Cell;
+use std::io::{self, BufReader, Read, Write};
 
 fn answers(input: &[u8]) -> (String, Status) {
     let mut buffer = [0; LARGEST_IMAGE];
@@ -104,4 +105,37 @@ fn an_input_that_fails_is_no_end() {
         matches!(failure, Failure::Said(words) if words.starts_with("cannot read standard input: "))
     );
     assert!(page.starts_with(b"refused,5,0,"));
+}
+
+#[test]
+fn an_answer_is_out_before_the_next_line_is_waited_for() {
+    /// Lines that come one at a time, each only once the one before is answered.
+    struct Asker<'a>(u32, &'a Cell<u32>);
+    impl Read for Asker<'_> {
+        fn read(&mut self, buffer: &mut [u8]) -> io::Result<usize> {
+            assert_eq!(self.1.get(), self.0);
+            if self.0 == 3 {
+                return Ok(0);
+            }
+            self.0 += 1;
+            (&b"1,2,3,4\n"[..]).read(buffer)
+        }
+    }
+    /// Counts the lines that have come out.
+    struct Reader<'a>(&'a Cell<u32>);
+    impl Write for Reader<'_> {
+        fn write(&mut self, bytes: &[u8]) -> io::Result<usize> {
+            let lines = bytes.iter().filter(|byte| **byte == b'\n').count();
+            self.0.set(self.0.get() + lines as u32);
+            Ok(bytes.len())
+        }
+        fn flush(&mut self) -> io::Result<()> {
+            Ok(())
+        }
+    }
+    let answered = Cell::new(0);
+    let mut out = io::BufWriter::new(Reader(&answered));
+    let status = readings(BufReader::new(Asker(0, &answered)), &[], 2, &mut out);
+    assert!(matches!(status, Ok(Status::Refused)));
+    assert_eq!(answered.get(), 3);
 }
