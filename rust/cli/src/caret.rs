@@ -69,7 +69,7 @@ mod tests {
         let line: Vec<u8> = (0..521).map(|place| b'0' + (place % 10) as u8).collect();
         for place in 0..=line.len() {
             let [characters, carets] = shown(&line, &(place..place + 1));
-            assert!(characters.len() <= WINDOW + 4);
+            assert!((WINDOW..=WINDOW + 4).contains(&characters.len()));
             let column = carets.len() - 1;
             assert!(carets.ends_with('^') && column <= characters.len());
             match line.get(place) {

@@ -81,12 +81,16 @@ fn lines_that_are_no_counts() {
 #[test]
 fn a_long_line_takes_none_of_the_next() {
     for length in [254, 255, 256, 257, 258, 259, 10_000] {
-        let mut input = vec![b' '; length];
-        input.extend_from_slice(b"\n10000,2847876,10000,1352875\n");
-        let (page, _) = answers(&input);
-        assert_eq!(page.lines().count(), 2, "{length}");
-        assert!(page.ends_with(READING), "{length}");
-        assert_eq!(page.contains("more than 255"), length > 255, "{length}");
+        for line_end in ["\n", "\r\n"] {
+            let input = format!(
+                "{}{line_end}10000,2847876,10000,1352875\n",
+                " ".repeat(length)
+            );
+            let (page, _) = answers(input.as_bytes());
+            assert_eq!(page.lines().count(), 2, "{length}");
+            assert!(page.ends_with(READING), "{length}");
+            assert_eq!(page.contains("more than 255"), length > 255, "{length}");
+        }
     }
 }
 

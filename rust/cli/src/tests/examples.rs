@@ -1,6 +1,6 @@
 //! What is told of the examples is what the proved `show` prints of them.
 
-use super::samples::{example, image_of, told};
+use super::samples::{build, example, image_of, told};
 use crate::gauge::Gauge;
 use crate::status::Status;
 use bjorkneve::Level;
@@ -103,4 +103,19 @@ The image has 277 bytes and 4 sections:
         page.contains("    kind 100, unknown, may change the reading, 3 bytes\n"),
         "{page}"
     );
+}
+
+#[test]
+fn unknown_kinds_below_128_may_change_the_reading() {
+    let (page, _) = told(&build(
+        &[5, 127, 128, 255],
+        &[vec![], vec![], vec![], vec![]],
+    ));
+    let sections = "\
+    kind 5, unknown, may change the reading, 0 bytes
+    kind 127, unknown, may change the reading, 0 bytes
+    kind 128, unknown, never changes a reading, 0 bytes
+    kind 255, unknown, never changes a reading, 0 bytes
+";
+    assert!(page.ends_with(sections), "{page}");
 }
