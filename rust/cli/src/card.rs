@@ -63,17 +63,10 @@ fn detail(detail: Detail) -> String {
 
 /// A number with a comma before each three digits.
 fn grouped(number: u32) -> String {
-    let digits = number.to_string();
-    let first = digits.len() % 3;
-    let groups = digits.as_bytes()[first..]
-        .chunks(3)
-        .map(String::from_utf8_lossy);
-    let groups: Vec<_> = [digits[..first].into()]
-        .into_iter()
-        .chain(groups)
-        .filter(|group| !group.is_empty())
-        .collect();
-    groups.join(",")
+    match number {
+        0..=999 => number.to_string(),
+        _ => format!("{},{:03}", grouped(number / 1_000), number % 1_000),
+    }
 }
 
 const OPENING: &str = "\
@@ -94,7 +87,7 @@ A marked reading is worked out as always; it lies outside the limits that the im
 
 `include/bjorkneve.h` has the numbers above as `BJORKNEVE_REFUSED_` and the name in the last column, \
 and the ones below as `BJORKNEVE_` and the name; `rust/bjorkneve` has the same words. \
-This page is printed by `bjorkneve card` from `rust/bjorkneve/src/card.rs`, and the header by `tools/header` from this page.
+This page is printed by `./bjorkneve card` from `rust/bjorkneve/src/card.rs`, and the header by `tools/header` from this page.
 
 | name | value | what it is |
 |---|---|---|
