@@ -33,6 +33,9 @@ extern "C" {
 #define BJORKNEVE_MUST_USE
 #endif
 
+/* The version of the library that this header is for. */
+#define BJORKNEVE_VERSION "0.1.0"
+
 /* Limits, levels, units, and the bits of a mark. */
 enum {
     BJORKNEVE_LARGEST_IMAGE = 4096, /* bytes of the largest image */

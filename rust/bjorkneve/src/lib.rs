@@ -26,6 +26,16 @@
 #![no_std]
 #![warn(missing_docs)]
 
+/// The fault card, docs/NUMBERS.md, for programs that print it.
+///
+/// ```
+/// use bjorkneve::fault_card;
+///
+/// let rows = || fault_card::TABLES.iter().flat_map(|table| table.rows);
+/// assert_eq!(rows().map(|row| row.number).max(), Some(26));
+/// assert!(rows().all(|row| row.number != 14));
+/// ```
+pub mod fault_card;
 #[doc(hidden)]
 pub mod raw;
 

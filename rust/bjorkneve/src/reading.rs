@@ -21,9 +21,16 @@ pub enum Unit {
 }
 
 impl Unit {
-    /// Nothing for a number that is no unit.
+    /// The unit that a trim names by this number; nothing for any other.
+    ///
+    /// ```
+    /// use bjorkneve::Unit;
+    ///
+    /// assert_eq!([0, 1, 2, 3, 4].map(Unit::of), [None, Some(Unit::Psi), Some(Unit::Bar), Some(Unit::Kpa), None]);
+    /// ```
     #[inline]
-    pub(crate) fn of(number: u8) -> Option<Self> {
+    #[must_use]
+    pub fn of(number: u8) -> Option<Self> {
         Some(match number {
             card::UNIT_PSI => Unit::Psi,
             card::UNIT_BAR => Unit::Bar,

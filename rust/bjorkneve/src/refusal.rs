@@ -1,8 +1,7 @@
 use crate::card;
 use core::fmt;
 
-/// The numbers of refusals by name, with the fault card's words. The card,
-/// docs/NUMBERS.md, also says what each detail is, and what to do.
+/// The numbers of refusals by name, with the fault card's words in short.
 ///
 /// ```
 /// use bjorkneve::{layout, refused};
@@ -42,6 +41,31 @@ impl Refusal {
     #[must_use]
     pub fn what_happened(&self) -> Option<&'static str> {
         card::what_happened(self.number)
+    }
+
+    /// What the detail means; nothing where the card has a 0 for it.
+    ///
+    /// ```
+    /// let refusal = bjorkneve::Refusal { number: 22, detail: 1 };
+    /// assert_eq!(refusal.detail_means(), Some("pressure channel"));
+    /// let refusal = bjorkneve::Refusal { number: 8, detail: 1 };
+    /// assert_eq!(refusal.detail_means(), Some("the contents line, from 0"));
+    /// ```
+    #[must_use]
+    pub fn detail_means(&self) -> Option<&'static str> {
+        card::detail(self.number)?.means(self.detail)
+    }
+
+    /// What the fault card says to do.
+    ///
+    /// ```
+    /// let refusal = bjorkneve::Refusal { number: 22, detail: 1 };
+    /// let advice = "The reference clock isn't counted: check the panel.";
+    /// assert_eq!(refusal.what_to_do(), Some(advice));
+    /// ```
+    #[must_use]
+    pub fn what_to_do(&self) -> Option<&'static str> {
+        card::what_to_do(self.number)
     }
 }
 
