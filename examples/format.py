@@ -24,9 +24,9 @@ import worked
 PRESSURE_SCALE = (22000, 20000)
 TEMPERATURE_SCALE = (58000, 17500)
 
-# row i and place j: the coefficient of (FP - 22,000 Hz)^i (FT - 58,000 Hz)^j, in psi for the first set and in °C for the second
+# row i and column j: the coefficient of (FP - 22,000 Hz)^i (FT - 58,000 Hz)^j, in psi for the first set and in °C for the second
 FITS = {
-    "pressure": [["11.25", "-0.00125"], ["0.9125", "0.000002"]],
+    "pressure": [["11.25", "-0.00125"], ["0.9125", "0.000002"], ["-0.000001", "0.00000000001"]],
     "temperature": [["25.5", "-0.0073", "0.00000001"]],
 }
 MEASURED_IN = {"pressure": "psi", "temperature": "°C"}
@@ -76,7 +76,7 @@ COUNTS = (10000, 2847876, 10000, 1352875)
 IDENTITY_FIELDS = [("serial", "I"), ("year", "H"), ("month", "B"), ("day", "B"), ("TMIN", "i"), ("TMAX", "i"), ("PMIN", "i"), ("PMAX", "i")]
 SET_HEAD_FIELDS = [("pressure prescale algorithm", "B"), ("temperature prescale algorithm", "B"), ("NP", "B"), ("NT", "B")]
 SET_HEAD_FIELDS += [("MP", "I"), ("FP0", "Q"), ("MT", "I"), ("FT0", "Q")]
-TRIM_FIELDS = [("unit", "B"), ("zero byte", "B"), ("zero byte", "B"), ("zero byte", "B"), ("span", "I"), ("zero", "q")]
+TRIM_FIELDS = [("unit", "B"), ("reserved", "B"), ("reserved", "B"), ("reserved", "B"), ("span", "I"), ("zero", "q")]
 
 
 def set_fields(numbers):
@@ -109,8 +109,8 @@ def meaning(part, name, value):
     if name in ("MP", "MT"):
         return f"X is 1 at {2**40 / value:,.3f} Hz from the offset" if value else "its order is 0"
     if name[0] in "ABCDE":
-        row, place = "ABCDE".index(name[0]), int(name[1])
-        return f"{value / 65536:,.4f} {MEASURED_IN[part]}" + " × XP" * row + " × XT" * place
+        row, column = "ABCDE".index(name[0]), int(name[1])
+        return f"{value / 65536:,.4f} {MEASURED_IN[part]}" + " × XP" * row + " × XT" * column
     return {
         "unit": UNIT,
         "span": f"{value / 2**28:.10f} {UNIT} for 1 psi",
@@ -135,7 +135,7 @@ def dump_fields(kind, offset):
         says = meaning(part, name, value)
         number = str(value) if name in ("serial", "year") else f"{value:,}"
         joined = " " if says in ("°C", "psi") else ": "
-        words = name if name == "zero byte" else f"{name} {number}" + (joined + says if says else "")
+        words = f"{name} {number}" + (joined + says if says else "")
         dump_line(offset + inner, inner, data, words)
         inner += len(data)
 
@@ -149,7 +149,7 @@ def print_dump():
     for line in range(count):
         data = IMAGE[2 + 8 * line : 10 + 8 * line]
         kind, _, offset, length, total = struct.unpack("<BBHHH", data)
-        dump_line(2 + 8 * line, "", data, f"line {line}: kind {kind}, zero byte, offset {offset}, length {length}, sum {total:,}")
+        dump_line(2 + 8 * line, "", data, f"line {line}: kind {kind}, reserved 0, offset {offset}, length {length}, sum {total:,}")
         lines.append((kind, offset, length))
     for kind, offset, length in lines:
         print(f"\nkind {kind}, {TITLES[kind]}")
@@ -192,11 +192,11 @@ def fitted(part):
 def print_reading():
     pressure, shown, temperature, _, mark = worked.reading(GAUGE, COUNTS)
     identity = GAUGE["identity"]
-    print("The frequencies:\n")
+    print("The frequencies, rounded up where twice the remainder is NR or more:\n")
     worked.print_frequencies(COUNTS)
     print("\nThe prescale. The temperature set has NP 0, so its XP is not worked out:\n")
     worked.print_prescales(GAUGE, COUNTS)
-    print("\nThe pressure set: row A, row B, then both rows by XP:\n")
+    print("\nThe pressure set: rows A, B and C by XT, then the rows by XP, from C to A:\n")
     worked.print_set(GAUGE, COUNTS, "pressure")
     print(f"\nThe pressure is {pressure:,}, in 1/65,536 psi: {pressure / 65536:,.4f} psi.", end=" ")
     print(f"The fit itself gives {float(fitted('pressure')):,.4f} psi. The temperature set has one row:\n")

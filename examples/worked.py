@@ -107,7 +107,7 @@ def summed(kind, x, terms):
 
 
 def rows(numbers):
-    return [[numbers[row + str(place)] for place in range(numbers["NT"] + 1)] for row in "ABCDE"[: numbers["NP"] + 1]]
+    return [[numbers[row + str(column)] for column in range(numbers["NT"] + 1)] for row in "ABCDE"[: numbers["NP"] + 1]]
 
 
 def set_result(kind, first, numbers, fp, ft):
@@ -217,10 +217,10 @@ def print_readings():
 
 
 def quotient(n, d):
-    """A quotient as a calculator shows it, cut off toward zero, and rounded."""
-    thousandths = abs(n) * 1000 // d
-    sign = "-" if n < 0 else ""
-    return f"{sign}{thousandths // 1000:,}.{thousandths % 1000:03} | {rounded(n, d):,}"
+    """A quotient rounded to three places, and to a whole number."""
+    thousandths = rounded(1000 * n, d)
+    sign = "-" if thousandths < 0 else ""
+    return f"{sign}{abs(thousandths) // 1000:,}.{abs(thousandths) % 1000:03} | {rounded(n, d):,}"
 
 
 def print_sum(x, terms, names):
@@ -235,7 +235,7 @@ def print_sum(x, terms, names):
 
 def print_grid(xp, xt, grid):
     print("| running sum × X | product | / 2^24 | rounded | plus | running sum |\n|---|---|---|---|---|---|")
-    names = [[f"{row}{place}" for place in range(len(grid[0]))] for row in "ABCDE"[: len(grid)]]
+    names = [[f"{row}{column}" for column in range(len(grid[0]))] for row in "ABCDE"[: len(grid)]]
     sums = [print_sum(xt, terms, name) for terms, name in zip(grid, names)]
     print_sum(xp, sums, [f"row {name[0][0]}" for name in names])
 
