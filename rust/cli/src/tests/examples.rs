@@ -27,7 +27,7 @@ fn shown() -> Vec<(&'static str, Vec<&'static str>)> {
 #[test]
 fn verdicts_are_those_of_show() {
     let examples = shown();
-    assert_eq!(examples.len(), 7);
+    assert_eq!(examples.len(), 8);
     for (name, lines) in examples {
         let (page, status) = told(&example(name));
         let refused = lines.iter().filter(|line| line.contains(" refused "));
@@ -71,7 +71,7 @@ fn the_gauge_is_that_of_show() {
             gauges += 1;
         }
     }
-    assert_eq!(gauges, 9);
+    assert_eq!(gauges, 10);
 }
 
 #[test]
