@@ -7,6 +7,8 @@ use native.Mathlib.Omega.{arith}
 use borrow.Author.Tests.{lt-ltb, le-ltb}
 use lib.Dec.{T, ltb, eqb, eqb→eq}
 use lib.ListN.{length, drop, getD}
+use mir.Val.{Fits}
+use mir.Syntax.{w64}
 use Rattle.laws.specs.Cases.{split}
 use Rattle.laws.specs.TableTests.{every, entry}
 use Rattle.hextext.specs.Record.{digit, allDigits}
@@ -50,10 +52,15 @@ pub digit-values-by-test : (t : List ℕ) → length t ≡ 256 → T (every isVa
 unfolding isValue
 digit-values-by-test t e passed = record { at = λ c h. eqb→eq (getD t c 0) (valueOf c) (entry isValue t passed c (omega arith)) }
 
-pub value-in-table : (t : List ℕ) (c r : ℕ) → DigitValues t → c < 256 → r ≡ getD t c 0 → DigitValue c r
-value-in-table t c r v h e =
-    let is = e ∙ v .at c h in
-    record { is = is; bound = split 16 (digit c) (λ k. omega (arith, value-no c k)) (λ k. omega (arith, value-yes c k)) }
+module _ (t : List ℕ) (c : ℕ) (v : DigitValues t) (h : c < 256) where
+  value-bound : getD t c 0 ≤ noDigit
+  value-bound = split 16 (digit c) (λ k. omega (arith, v .at c h, value-no c k)) (λ k. omega (arith, v .at c h, value-yes c k))
+
+  pub value-fits : Fits w64 (getD t c 0)
+  value-fits = record { fits = omega (arith, value-bound) }
+
+  pub value-in-table : (r : ℕ) → r ≡ getD t c 0 → DigitValue c r
+  value-in-table r e = record { is = e ∙ v .at c h; bound = omega (arith, value-bound) }
 
 -- ---- a pair
 

@@ -6,11 +6,12 @@ ghost use Rattle.hexread.specs.DigitsLaws.{DigitValues, DigitValue, Pair
 // In place of a digit's value. Above what a record's six parts add up to, so that their sum shows whether one is no digits.
 pub const NO_DIGIT: usize = 2048;
 
-// The value of each character as a hexadecimal digit, or NO_DIGIT: a table, for a pair by itself.
-pub fn values() -> [usize; 256]
+// The value of each character as a hexadecimal digit, or NO_DIGIT: a table, for a pair by itself. It lies on the stack, so its entries are
+// no wider than they must be.
+pub fn values() -> [u16; 256]
     ensures { λ r. ⌜ DigitValues r ⌝ }
 {
-    let mut values = [NO_DIGIT; 256];
+    let mut values = [NO_DIGIT as u16; 256];
     // 0 to 9
     values[48] = 0;
     values[49] = 1;
@@ -39,15 +40,16 @@ pub fn values() -> [usize; 256]
     values
 }
 
-fn value(values: &[usize; 256], character: u8) -> usize
+fn value(values: &[u16; 256], character: u8) -> usize
     requires { ⌜ DigitValues (now values) ⌝ }
     ensures { λ r. ⌜ DigitValue character r ⌝ }
 {
-    values[character as usize]
+    let found = values[character as usize];
+    found as usize
 }
 
 // The byte that the two characters at `at` spell, NO_DIGIT or more where they are no digits.
-pub fn pair(values: &[usize; 256], text: &[u8], at: usize) -> usize
+pub fn pair(values: &[u16; 256], text: &[u8], at: usize) -> usize
     requires { ⌜ DigitValues (now values) × (at + 1 < length (now text)) ⌝ }
     ensures { λ r. ⌜ Pair (now (text .entry)) at r ⌝ }
 {

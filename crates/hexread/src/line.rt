@@ -18,7 +18,7 @@ pub enum Step {
 
 // The text's first line, its record's data in the image at `at`.
 pub fn first_line(
-    values: &[usize; 256],
+    values: &[u16; 256],
     text: &[u8],
     image: &mut [u8],
     at: usize,

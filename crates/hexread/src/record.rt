@@ -132,7 +132,7 @@ fn judge_unwritten(line: &[u8], at: usize, room: usize) -> Record
 
 // The record of a line that is as long as its count says, judged, its data in the image where they have room.
 pub fn take_record(
-    values: &[usize; 256],
+    values: &[u16; 256],
     line: &[u8],
     count: usize,
     image: &mut [u8],

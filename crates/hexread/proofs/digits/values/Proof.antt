@@ -5,6 +5,9 @@ use Rattle.hexread.specs.DigitsLaws.{isValue, valueOf, digit-values-by-t
 use Rattle.hexread.proofs.digits.values.Statement.{statement}
 use Rattle.hexread.proofs.digits.values.Tie as tie
 
+cast-values : tie.Need-cast-values
+cast-values c = search needs
+
 array-write-values : tie.Need-array-write-values
 array-write-values c = search needs
 
@@ -79,6 +82,7 @@ pub values-spec : {M : Type 1} → statement M
 values-spec =
     tie.close
     (tie.spec
+    cast-values
     array-write-values
     array-write-values-2
     array-write-values-3
