@@ -89,28 +89,28 @@ orders-printed page a set words body e w = rw (← e) w
 -- ---- the lines of all levels
 
 -- the loop's invariant: the lines of the first `level` levels are on the page
-pub record LevelsPrinted (page : Page) (image : List ℕ) (longer : Page) (level : ℕ) : Type 0 where
+pub record LevelsPrinted (page₀ : Page) (image : List ℕ) (page : Page) (level : ℕ) : Type 0 where
   pub within : level ≤ lastLevel
-  pub room : longer .end ≤ level * levelRoom
-  pub lines : printed longer ≡ printed page ++ levelLines level image
+  pub room : page .end ≤ level * levelRoom
+  pub lines : printed page ≡ printed page₀ ++ levelLines level image
 
 pub levels-first : (page : Page) (image : List ℕ) → page .end ≡ 0 → LevelsPrinted page image page 0
 unfolding levelLines
 levels-first page image e = record { within = omega arith; room = omega arith; lines = sym (append-nil (printed page)) }
 
-module _ (page : Page) (image : List ℕ) (longer : Page) (level : ℕ) (h : LevelsPrinted page image longer level) where
-  pub levels-more : (next : Page) → level < lastLevel → printed next ≡ printed longer ++ levelLine (level + 1) image
-      → next .end ≤ longer .end + levelRoom → LevelsPrinted page image next (level + 1)
+module _ (page₀ : Page) (image : List ℕ) (page : Page) (level : ℕ) (h : LevelsPrinted page₀ image page level) where
+  pub levels-more : (next : Page) → level < lastLevel → printed next ≡ printed page ++ levelLine (level + 1) image
+      → next .end ≤ page .end + levelRoom → LevelsPrinted page₀ image next (level + 1)
   unfolding levelLines
   levels-more next k e room =
       let line = rw (add-one level) at e in
       record {
         within = omega arith;
         room = omega (arith, h .room);
-        lines = rw (add-one level) (printed-then page longer next (levelLines level image) (levelLine (suc level) image) (h .lines) line);
+        lines = rw (add-one level) (printed-then page₀ page next (levelLines level image) (levelLine (suc level) image) (h .lines) line);
       }
 
-  pub levels-end : lastLevel ≤ level → printed longer ≡ printed page ++ levelLines lastLevel image
+  pub levels-end : lastLevel ≤ level → printed page ≡ printed page₀ ++ levelLines lastLevel image
   levels-end k = let all : level ≡ lastLevel = omega (arith, h .within) in rw all at (h .lines)
 
 -- ---- the page

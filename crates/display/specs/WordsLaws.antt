@@ -31,25 +31,25 @@ four-printed page a b c d p q s t e f g h = rw (h, g, f, e) (simp append-assoc)
 -- ---- the words copied
 
 -- the loop's invariant: the first i of the words are on the page
-pub record Putting (page : Page) (words : List ℕ) (longer : Page) (i : ℕ) : Type 0 where
+pub record Putting (page₀ : Page) (words : List ℕ) (page : Page) (i : ℕ) : Type 0 where
   pub within : i ≤ length words
-  pub ends : longer .end ≡ page .end + i
-  pub wrote : printed longer ≡ printed page ++ take i words
+  pub ends : page .end ≡ page₀ .end + i
+  pub wrote : printed page ≡ printed page₀ ++ take i words
 
 pub putting-first : (page : Page) (words : List ℕ) → Putting page words page 0
 putting-first page words = record { within = omega arith; ends = omega arith; wrote = sym (append-nil (printed page)) }
 
-module _ (page : Page) (words : List ℕ) (longer : Page) (i : ℕ) (h : Putting page words longer i) where
+module _ (page₀ : Page) (words : List ℕ) (page : Page) (i : ℕ) (h : Putting page₀ words page i) where
   pub putting-more : (next : Page) → i < length words
-      → printed next ≡ printed longer ++ getD words i 0 ∷ [] → next .end ≡ longer .end + 1 → Putting page words next (i + 1)
+      → printed next ≡ printed page ++ getD words i 0 ∷ [] → next .end ≡ page .end + 1 → Putting page₀ words next (i + 1)
   putting-more next k e f =
       record {
         within = omega arith;
         ends = omega (arith, h .ends);
-        wrote = rw (add-one i, take-suc words i 0 k) (printed-then page longer next (take i words) (getD words i 0 ∷ []) (h .wrote) e);
+        wrote = rw (add-one i, take-suc words i 0 k) (printed-then page₀ page next (take i words) (getD words i 0 ∷ []) (h .wrote) e);
       }
 
-  pub putting-end : length words ≤ i → printed longer ≡ printed page ++ words
+  pub putting-end : length words ≤ i → printed page ≡ printed page₀ ++ words
   putting-end k = rw (take-all i words k) at (h .wrote)
 
 -- ---- the digits of a number

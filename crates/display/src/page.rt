@@ -37,10 +37,10 @@ fn put_identity(page: Page, body: &[u8]) -> Page
     ensures { λ r. ⌜ r .end ≤ page .end + identityRoom ⌝ }
 {
     let identity = bodies::read_identity(body);
-    let serial = put_field(page, b" serial ", identity.serial as u64);
-    let year = put_field(serial, b" date ", identity.year as u64);
-    let month = put_two_digits(year, identity.month);
-    put_two_digits(month, identity.day)
+    let page = put_field(page, b" serial ", identity.serial as u64);
+    let page = put_field(page, b" date ", identity.year as u64);
+    let page = put_two_digits(page, identity.month);
+    put_two_digits(page, identity.day)
 }
 
 // The body of kind 2 or 3: the orders NP and NT.
@@ -72,10 +72,10 @@ fn put_accepted(page: Page, image: &[u8]) -> Page
     ensures { λ r. ⌜ printed r ≡ printed page ++ imageWords (now (image .entry)) ⌝ }
     ensures { λ r. ⌜ r .end ≤ page .end + acceptedRoom ⌝ }
 {
-    let identity = put_identity(page, body_of(image, 1));
-    let pressure = put_orders(identity, b" pressure ", body_of(image, 2));
-    let temperature = put_orders(pressure, b" temperature ", body_of(image, 3));
-    put_character(temperature, b'\n')
+    let page = put_identity(page, body_of(image, 1));
+    let page = put_orders(page, b" pressure ", body_of(image, 2));
+    let page = put_orders(page, b" temperature ", body_of(image, 3));
+    put_character(page, b'\n')
 }
 
 fn put_level(page: Page, level: u32, image: &[u8]) -> Page
@@ -83,27 +83,26 @@ fn put_level(page: Page, level: u32, image: &[u8]) -> Page
     ensures { λ r. ⌜ printed r ≡ printed page ++ levelLine level (now (image .entry)) ⌝ }
     ensures { λ r. ⌜ r .end ≤ page .end + levelRoom ⌝ }
 {
-    let named = put_field(page, b"level ", level as u64);
+    let page = put_field(page, b"level ", level as u64);
     let verdict = panel::verdict(image, level);
     match verdict {
-        Verdict::Accepted => put_accepted(named, image),
-        Verdict::Refused(refusal) => put_refused(named, refusal.number, refusal.detail),
+        Verdict::Accepted => put_accepted(page, image),
+        Verdict::Refused(refusal) => put_refused(page, refusal.number, refusal.detail),
     }
 }
 
 // The line of each level, from level 1 on.
-fn put_levels(page: Page, image: &[u8]) -> Page
+fn put_levels(mut page: Page, image: &[u8]) -> Page
     requires { ⌜ page .end ≡ 0 ⌝ }
     ensures { λ r. ⌜ printed r ≡ printed page ++ levelLines lastLevel (now (image .entry)) ⌝ }
     ensures { λ r. ⌜ r .end ≤ pageRoom ⌝ }
 {
-    let mut longer = page;
     let mut level: u32 = 0;
     while level < LAST_LEVEL {
         level += 1;
-        longer = put_level(longer, level, image);
+        page = put_level(page, level, image);
     }
-    longer
+    page
 }
 
 fn put_text_refused(page: Page, number: u32, detail: u64) -> Page

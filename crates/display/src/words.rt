@@ -10,7 +10,7 @@ use crate::PAGE_SIZE;
 // the digits of a number of 64 bits
 const NUMBER_ROOM: usize = 20;
 
-// What is printed are the bytes before `end`.
+// The bytes before `end` are what is printed.
 pub struct Page {
     pub bytes: [u8; PAGE_SIZE],
     pub end: usize,
@@ -40,18 +40,17 @@ pub fn put_character(page: Page, character: u8) -> Page
     }
 }
 
-pub fn put(page: Page, words: &[u8]) -> Page
+pub fn put(mut page: Page, words: &[u8]) -> Page
     requires { ⌜ page .end + length (now words) ≤ pageRoom ⌝ }
     ensures { λ r. ⌜ printed r ≡ printed page ++ now (words .entry) ⌝ }
     ensures { λ r. ⌜ r .end ≡ page .end + length (now (words .entry)) ⌝ }
 {
-    let mut longer = page;
     let mut i: usize = 0;
     while i < words.len() {
-        longer = put_character(longer, words[i]);
+        page = put_character(page, words[i]);
         i += 1;
     }
-    longer
+    page
 }
 
 pub fn put_number(page: Page, n: u64) -> Page

@@ -8,10 +8,10 @@ use Rattle.display.proofs.page.put_levels.Tie as tie
 ruleset laws = (needs, levels-first, levels-more, levels-end)
 
 abbrev Inv-loop : tie.InvT-loop
-Inv-loop image page₀ level₀ page level = LevelsPrinted page₀ image page level
+Inv-loop page₀ image level₀ page level = LevelsPrinted page₀ image page level
 
 abbrev μ-loop : tie.MeasureT-loop
-μ-loop image page₀ level₀ page level = lastLevel - level
+μ-loop page₀ image level₀ page level = lastLevel - level
 
 loop-holds : tie.Need-loop-holds Inv-loop μ-loop
 loop-holds c = search laws

@@ -8,10 +8,10 @@ use Rattle.display.proofs.words.put.Tie as tie
 ruleset laws = (needs, putting-first, putting-more, putting-end)
 
 abbrev Inv-loop : tie.InvT-loop
-Inv-loop words longer₀ i₀ longer i = Putting longer₀ words longer i
+Inv-loop page₀ words i₀ page i = Putting page₀ words page i
 
 abbrev μ-loop : tie.MeasureT-loop
-μ-loop words longer₀ i₀ longer i = length words - i
+μ-loop page₀ words i₀ page i = length words - i
 
 loop-holds : tie.Need-loop-holds Inv-loop μ-loop
 loop-holds c = search laws
