@@ -15,10 +15,10 @@ use Rattle.laws.specs.Characters.{characters}
 use Rattle.display.specs.declared.words.Page.{Page}
 use Rattle.display.specs.Words.{printed, digit, decimalIn, decimal, field, pair, twoDigits, numberRoom}
 
-pub character-printed : (bytes : List ℕ) (end c : ℕ) → end < length bytes
-    → printed (record { bytes = set bytes end c; end = end + 1 }) ≡ printed (record { bytes = bytes; end = end }) ++ c ∷ []
+pub character-printed : (page : Page) (c : ℕ) → page .end < length (page .bytes)
+    → printed (record { bytes = set (page .bytes) (page .end) c; end = page .end + 1 }) ≡ printed page ++ c ∷ []
 unfolding printed
-character-printed bytes end c h = rw (add-one end) (take-suc-set bytes end c h)
+character-printed page c h = rw (add-one (page .end)) (take-suc-set (page .bytes) (page .end) c h)
 
 pub printed-then : (page a b : Page) (p q : List ℕ) → printed a ≡ printed page ++ p → printed b ≡ printed a ++ q → printed b ≡ printed page ++ (p ++ q)
 printed-then page a b p q e f = rw (f, e) (append-assoc (printed page) p q)

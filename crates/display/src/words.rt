@@ -26,18 +26,15 @@ pub fn empty(lent: [u8; PAGE_SIZE]) -> Page
     }
 }
 
-pub fn put_character(page: Page, character: u8) -> Page
+pub fn put_character(mut page: Page, character: u8) -> Page
     requires { ⌜ page .end < pageRoom ⌝ }
     ensures { λ r. ⌜ printed r ≡ printed page ++ character ∷ [] ⌝ }
     ensures { λ r. ⌜ r .end ≡ page .end + 1 ⌝ }
 {
-    let mut bytes = page.bytes;
     let end = page.end;
-    bytes[end] = character;
-    Page {
-        bytes: bytes,
-        end: end + 1,
-    }
+    page.bytes[end] = character;
+    page.end = end + 1;
+    page
 }
 
 pub fn put(mut page: Page, words: &[u8]) -> Page

@@ -3,14 +3,14 @@ use Rattle.display.specs.WordsLaws.{character-printed}
 use Rattle.display.proofs.words.put_character.Statement.{statement}
 use Rattle.display.proofs.words.put_character.Tie as tie
 
-array-write-bytes : tie.Need-array-write-bytes
-array-write-bytes c = search needs
+element-write-page : tie.Need-element-write-page
+element-write-page c = search needs
 
-add-t8 : tie.Need-add-t8
-add-t8 c = search needs
+add-page : tie.Need-add-page
+add-page c = search needs
 
 returns : tie.Need-returns
-returns c = (character-printed _ _ _ (search needs), search needs)
+returns c = (search (needs, character-printed), search needs)
 
 pub put-character-spec : {M : Type 1} → statement M
-put-character-spec = tie.close (tie.spec array-write-bytes add-t8 returns)
+put-character-spec = tie.close (tie.spec element-write-page add-page returns)
