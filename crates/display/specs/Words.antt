@@ -1,4 +1,4 @@
--- The numbers that the show program prints, and words before them.
+-- The numbers that the show program prints, words before them, and the page that they are printed on.
 use mathlib.Core.Bool.{cond}
 use mathlib.Core.List.{List, [], _∷_, _++_}
 use Prim.Native.Nat.{ℕ, zero, suc, _+_, _/_, _%_}
@@ -30,7 +30,7 @@ pair words first second = field words first ++ field (characters " ") second
 unfoldable pub twoDigits : ℕ → List ℕ
 twoDigits n = field (characters "-") (n / 10) ++ digit (n % 10) ∷ []
 
--- ---- a page, and the room that these take on a page
+-- ---- the page, and the room that these take on it
 
 unfoldable pub printed : Page → List ℕ
 printed page = take (page .end) (page .bytes)

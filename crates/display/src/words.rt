@@ -16,7 +16,7 @@ pub struct Page {
     pub end: usize,
 }
 
-// The lent page, with nothing printed on it yet.
+// The lent page, with nothing printed on it yet. The length of an array is known where it is a parameter, not where it lies behind a reference.
 pub fn empty(lent: [u8; PAGE_SIZE]) -> Page
     ensures { λ r. ⌜ r ≡ record { bytes = lent; end = 0 } ⌝ }
 {

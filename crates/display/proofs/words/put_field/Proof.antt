@@ -1,5 +1,4 @@
 use native.Mathlib.Omega.{arith}
-use borrow.Author.Needs.{needs}
 use Rattle.display.specs.WordsLaws.{field-printed}
 use Rattle.display.proofs.words.put_field.Statement.{statement}
 use Rattle.display.proofs.words.put_field.Tie as tie
