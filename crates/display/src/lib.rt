@@ -24,8 +24,7 @@ pub fn show(text: &[u8], page: &mut [u8; PAGE_SIZE]) -> usize
 {
     let printed = page::put_page(words::empty(*page), text);
     let bytes = printed.bytes;
-    let end = printed.end;
     *page = bytes;
-    numbers::slices::clear_from(page, end);
-    end
+    numbers::slices::clear_from(page, printed.end);
+    printed.end
 }

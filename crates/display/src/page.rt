@@ -22,24 +22,25 @@ use limits::LONGEST_SHOWN_TEXT;
 use refusals::Filled;
 use refusals::Verdict;
 
-fn put_refused(page: Page, number: u32, detail: u64) -> Page
+fn put_refused(mut page: Page, number: u32, detail: u64) -> Page
     requires { ⌜ page .end + refusedRoom ≤ pageRoom ⌝ }
     ensures { λ r. ⌜ printed r ≡ printed page ++ refusedWords number detail ⌝ }
     ensures { λ r. ⌜ r .end ≤ page .end + refusedRoom ⌝ }
 {
-    put_character(put_pair(page, b" refused ", number as u64, detail), b'\n')
+    page = put_pair(page, b" refused ", number as u64, detail);
+    put_character(page, b'\n')
 }
 
 // The body of kind 1: serial and date.
-fn put_identity(page: Page, body: &[u8]) -> Page
+fn put_identity(mut page: Page, body: &[u8]) -> Page
     requires { ⌜ page .end + identityRoom ≤ pageRoom ⌝ }
     ensures { λ r. ⌜ printed r ≡ printed page ++ identityWords (identityOf (now (body .entry))) ⌝ }
     ensures { λ r. ⌜ r .end ≤ page .end + identityRoom ⌝ }
 {
     let identity = bodies::read_identity(body);
-    let page = put_field(page, b" serial ", identity.serial as u64);
-    let page = put_field(page, b" date ", identity.year as u64);
-    let page = put_two_digits(page, identity.month);
+    page = put_field(page, b" serial ", identity.serial as u64);
+    page = put_field(page, b" date ", identity.year as u64);
+    page = put_two_digits(page, identity.month);
     put_two_digits(page, identity.day)
 }
 
@@ -66,24 +67,24 @@ fn body_of(image: &[u8], kind: u32) -> &[u8]
     finder::part_at(image, finder::stated(image, kind))
 }
 
-fn put_accepted(page: Page, image: &[u8]) -> Page
+fn put_accepted(mut page: Page, image: &[u8]) -> Page
     requires { ⌜ page .end + acceptedRoom ≤ pageRoom ⌝ }
     requires { ⌜ layoutVerdict (now image) ≡ Verdict.Accepted ⌝ }
     ensures { λ r. ⌜ printed r ≡ printed page ++ imageWords (now (image .entry)) ⌝ }
     ensures { λ r. ⌜ r .end ≤ page .end + acceptedRoom ⌝ }
 {
-    let page = put_identity(page, body_of(image, 1));
-    let page = put_orders(page, b" pressure ", body_of(image, 2));
-    let page = put_orders(page, b" temperature ", body_of(image, 3));
+    page = put_identity(page, body_of(image, 1));
+    page = put_orders(page, b" pressure ", body_of(image, 2));
+    page = put_orders(page, b" temperature ", body_of(image, 3));
     put_character(page, b'\n')
 }
 
-fn put_level(page: Page, level: u32, image: &[u8]) -> Page
+fn put_level(mut page: Page, level: u32, image: &[u8]) -> Page
     requires { ⌜ page .end + levelRoom ≤ pageRoom ⌝ }
     ensures { λ r. ⌜ printed r ≡ printed page ++ levelLine level (now (image .entry)) ⌝ }
     ensures { λ r. ⌜ r .end ≤ page .end + levelRoom ⌝ }
 {
-    let page = put_field(page, b"level ", level as u64);
+    page = put_field(page, b"level ", level as u64);
     let verdict = panel::verdict(image, level);
     match verdict {
         Verdict::Accepted => put_accepted(page, image),
@@ -105,12 +106,13 @@ fn put_levels(mut page: Page, image: &[u8]) -> Page
     page
 }
 
-fn put_text_refused(page: Page, number: u32, detail: u64) -> Page
+fn put_text_refused(mut page: Page, number: u32, detail: u64) -> Page
     requires { ⌜ page .end + textRefusedRoom ≤ pageRoom ⌝ }
     ensures { λ r. ⌜ printed r ≡ printed page ++ textRefused number detail ⌝ }
     ensures { λ r. ⌜ r .end ≤ page .end + textRefusedRoom ⌝ }
 {
-    put_refused(put(page, b"text"), number, detail)
+    page = put(page, b"text");
+    put_refused(page, number, detail)
 }
 
 pub fn put_page(page: Page, given: &[u8]) -> Page

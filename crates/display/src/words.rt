@@ -61,28 +61,31 @@ pub fn put_number(page: Page, n: u64) -> Page
 }
 
 // Words, and a number after them.
-pub fn put_field(page: Page, words: &[u8], n: u64) -> Page
+pub fn put_field(mut page: Page, words: &[u8], n: u64) -> Page
     requires { ⌜ page .end + fieldRoom (now words) ≤ pageRoom ⌝ }
     ensures { λ r. ⌜ printed r ≡ printed page ++ field (now (words .entry)) n ⌝ }
     ensures { λ r. ⌜ r .end ≤ page .end + fieldRoom (now (words .entry)) ⌝ }
 {
-    put_number(put(page, words), n)
+    page = put(page, words);
+    put_number(page, n)
 }
 
 // Words, a number, a blank, and a second number.
-pub fn put_pair(page: Page, words: &[u8], first: u64, second: u64) -> Page
+pub fn put_pair(mut page: Page, words: &[u8], first: u64, second: u64) -> Page
     requires { ⌜ page .end + pairRoom (now words) ≤ pageRoom ⌝ }
     ensures { λ r. ⌜ printed r ≡ printed page ++ pair (now (words .entry)) first second ⌝ }
     ensures { λ r. ⌜ r .end ≤ page .end + pairRoom (now (words .entry)) ⌝ }
 {
-    put_field(put_field(page, words, first), b" ", second)
+    page = put_field(page, words, first);
+    put_field(page, b" ", second)
 }
 
 // A hyphen, and a number of two digits or more after it.
-pub fn put_two_digits(page: Page, n: u8) -> Page
+pub fn put_two_digits(mut page: Page, n: u8) -> Page
     requires { ⌜ page .end + twoDigitsRoom ≤ pageRoom ⌝ }
     ensures { λ r. ⌜ printed r ≡ printed page ++ twoDigits n ⌝ }
     ensures { λ r. ⌜ r .end ≤ page .end + twoDigitsRoom ⌝ }
 {
-    put_character(put_field(page, b"-", (n / 10) as u64), b'0' + n % 10)
+    page = put_field(page, b"-", (n / 10) as u64);
+    put_character(page, b'0' + n % 10)
 }
