@@ -1,10 +1,11 @@
--- The numbers that the show program prints, and words before them.
+-- The numbers that the show program prints, words before them, and the page that they are printed on.
 use mathlib.Core.Bool.{cond}
 use mathlib.Core.List.{List, [], _∷_, _++_}
 use Prim.Native.Nat.{ℕ, zero, suc, _+_, _/_, _%_}
 use lib.Dec.{ltb}
-use lib.ListN.{length}
+use lib.ListN.{length, take}
 use Rattle.laws.specs.Characters.{characters}
+use Rattle.display.specs.declared.words.Page.{Page}
 
 abbrev pub digit : ℕ → ℕ
 digit n = 48 + n
@@ -27,9 +28,12 @@ pair words first second = field words first ++ field (characters " ") second
 
 -- month or day after a hyphen, in two digits
 unfoldable pub twoDigits : ℕ → List ℕ
-twoDigits n = cond (ltb n 10) (field (characters "-0") n) (field (characters "-") n)
+twoDigits n = field (characters "-") (n / 10) ++ digit (n % 10) ∷ []
 
--- ---- the room that these take on a page
+-- ---- the page, and the room that these take on it
+
+unfoldable pub printed : Page → List ℕ
+printed page = take (page .end) (page .bytes)
 
 -- the digits of a number of 64 bits
 abbrev pub numberRoom : ℕ
@@ -42,4 +46,4 @@ abbrev pub pairRoom : List ℕ → ℕ
 pairRoom words = fieldRoom words + fieldRoom (characters " ")
 
 abbrev pub twoDigitsRoom : ℕ
-twoDigitsRoom = fieldRoom (characters "-0")
+twoDigitsRoom = fieldRoom (characters "-") + 1

@@ -1,60 +1,56 @@
--- Words on a page one after the other, and the digits of a number.
-use mathlib.Core.Path.{_≡_, refl, _∙_}
-use mathlib.Core.List.{List, [], _∷_, _++_}
+-- What is printed on a page, words after words, and the digits of a number.
+use mathlib.Core.Path.{_≡_, sym}
+use mathlib.Core.List.{List, [], _∷_, _++_, append-nil, append-assoc}
 use Prim.Native.Nat.{ℕ, zero, suc, _+_, _-_, _*_, _/_, _%_, _^_, _≤_, _<_}
 use native.Mathlib.Nat.{one-le-pow, pow-le-pow-right}
 use native.Mathlib.Omega.{arith}
 use native.Mathlib.Numerals.{add-one, unary-clauses}
 use borrow.Author.Tests.{lt-ltb, le-ltb}
-use lib.ListN.{length, take, getD, set, length-append, length-take, length-set}
-use lib.Seq.{take-suc, take-all}
+use lib.ListN.{length, take, getD, set}
+use lib.Seq.{take-suc, take-all, take-suc-set}
 use Rattle.io.specs.Counts.{Counts}
 use Rattle.io.specs.Digits.{glyph, digits, Fewest}
 use Rattle.laws.specs.Cases.{split}
 use Rattle.laws.specs.Characters.{characters}
-use Rattle.laws.specs.BufferWrites.{WrittenAt, written-nothing, written-character, written-then}
-use Rattle.display.specs.Words.{digit, decimalIn, decimal, field, pair, twoDigits, numberRoom, fieldRoom}
+use Rattle.display.specs.declared.words.Page.{Page}
+use Rattle.display.specs.Words.{printed, digit, decimalIn, decimal, field, pair, twoDigits, numberRoom}
 
--- the words were put at `at` of the page d, and end at `end`; d′ is the page then
-pub record Printed (at : ℕ) (words d : List ℕ) (end : ℕ) (d′ : List ℕ) : Type 0 where
-  pub wrote : WrittenAt at words d d′
-  pub ends : end ≡ at + length words
+pub character-printed : (page : Page) (c : ℕ) → page .end < length (page .bytes)
+    → printed (record { bytes = set (page .bytes) (page .end) c; end = page .end + 1 }) ≡ printed page ++ c ∷ []
+unfolding printed
+character-printed page c h = rw (add-one (page .end)) (take-suc-set (page .bytes) (page .end) c h)
 
-pub printed-nothing : (at : ℕ) (d : List ℕ) → Printed at [] d at d
-printed-nothing at d = record { wrote = written-nothing at d; ends = omega arith }
+pub printed-then : (page a b : Page) (p q : List ℕ) → printed a ≡ printed page ++ p → printed b ≡ printed a ++ q → printed b ≡ printed page ++ (p ++ q)
+printed-then page a b p q e f = rw (f, e) (append-assoc (printed page) p q)
 
-pub printed-then : (at m end : ℕ) (p q d d₁ d₂ : List ℕ) → Printed at p d m d₁ → Printed m q d₁ end d₂ → Printed at (p ++ q) d end d₂
-printed-then at m end p q d d₁ d₂ w v =
-    record {
-      wrote = written-then at m p q d d₁ d₂ (w .wrote) (w .ends) (v .wrote);
-      ends = omega (arith, w .ends, v .ends, length-append p q);
-    }
+pub four-printed : (page a b c d : Page) (p q s t : List ℕ)
+    → printed a ≡ printed page ++ p → printed b ≡ printed a ++ q → printed c ≡ printed b ++ s → printed d ≡ printed c ++ t
+    → printed d ≡ printed page ++ (p ++ q ++ s ++ t)
+four-printed page a b c d p q s t e f g h = rw (h, g, f, e) (simp append-assoc)
 
 -- ---- the words copied
 
 -- the loop's invariant: the first i of the words are on the page
-pub record Putting (at : ℕ) (words d₀ d : List ℕ) (i : ℕ) : Type 0 where
+pub record Putting (page₀ : Page) (words : List ℕ) (page : Page) (i : ℕ) : Type 0 where
   pub within : i ≤ length words
-  pub kept : length d ≡ length d₀
-  pub wrote : WrittenAt at (take i words) d₀ d
+  pub ends : page .end ≡ page₀ .end + i
+  pub wrote : printed page ≡ printed page₀ ++ take i words
 
-pub putting-first : (at : ℕ) (words d : List ℕ) → Putting at words d d 0
-putting-first at words d = record { within = omega arith; kept = refl; wrote = written-nothing at d }
+pub putting-first : (page : Page) (words : List ℕ) → Putting page words page 0
+putting-first page words = record { within = omega arith; ends = omega arith; wrote = sym (append-nil (printed page)) }
 
-module _ (at : ℕ) (words d₀ d : List ℕ) (i : ℕ) (h : Putting at words d₀ d i) where
-  pub putting-more : i < length words → at + length words ≤ length d₀ → Putting at words d₀ (set d (at + i) (getD words i 0)) (i + 1)
-  putting-more k room =
-      let c : ℕ = getD words i 0 in
+module _ (page₀ : Page) (words : List ℕ) (page : Page) (i : ℕ) (h : Putting page₀ words page i) where
+  pub putting-more : (next : Page) → i < length words
+      → printed next ≡ printed page ++ getD words i 0 ∷ [] → next .end ≡ page .end + 1 → Putting page₀ words next (i + 1)
+  putting-more next k e f =
       record {
         within = omega arith;
-        kept = length-set d (at + i) c ∙ h .kept;
-        wrote = rw (add-one i, take-suc words i 0 k)
-            (written-then at (at + i) (take i words) (c ∷ []) d₀ d (set d (at + i) c) (h .wrote) (omega (arith, length-take i words, h .within))
-            (written-character (at + i) c d (omega (arith, h .kept))));
+        ends = omega (arith, h .ends);
+        wrote = rw (add-one i, take-suc words i 0 k) (printed-then page₀ page next (take i words) (getD words i 0 ∷ []) (h .wrote) e);
       }
 
-  pub putting-end : length words ≤ i → Printed at words d₀ (at + length words) d
-  putting-end k = record { wrote = rw (take-all i words k) at (h .wrote); ends = refl }
+  pub putting-end : length words ≤ i → printed page ≡ printed page₀ ++ words
+  putting-end k = rw (take-all i words k) at (h .wrote)
 
 -- ---- the digits of a number
 
@@ -99,23 +95,24 @@ module _ (k n : ℕ) (out : List ℕ) (c : Counts k out) (f : Fewest 10 1 n k) (
   pub digits-fit : length (take k out) ≤ numberRoom
   digits-fit = omega (arith, c .1, few-digits k n f h)
 
-  pub field-printed : (at m end : ℕ) (words d d₁ d₂ : List ℕ)
-      → take k out ≡ digits 10 k n → Printed at words d m d₁ → Printed m (take k out) d₁ end d₂
-      → Printed at (field words n) d end d₂ × (end ≤ at + fieldRoom words)
+  pub number-printed : (page r : Page) → take k out ≡ digits 10 k n
+      → printed r ≡ printed page ++ take k out → r .end ≡ page .end + length (take k out)
+      → (printed r ≡ printed page ++ decimal n) × (r .end ≤ page .end + numberRoom)
+  number-printed page r e p q = (rw (← fewest-decimal k n f, ← e) p, omega (arith, digits-fit))
+
+module _ (page a b : Page) where
+  pub field-printed : (words : List ℕ) (n : ℕ)
+      → printed a ≡ printed page ++ words → printed b ≡ printed a ++ decimal n → printed b ≡ printed page ++ field words n
   unfolding field
-  field-printed at m end words d d₁ d₂ e p q =
-      (printed-then at m end words (decimal n) d d₁ d₂ p (rw (← fewest-decimal k n f, ← e) q), omega (arith, p .ends, q .ends, digits-fit))
+  field-printed words n = printed-then page a b words (decimal n)
 
-pub pair-printed : (at m end first second : ℕ) (words d d₁ d₂ : List ℕ)
-    → Printed at (field words first) d m d₁ → Printed m (field (characters " ") second) d₁ end d₂ → Printed at (pair words first second) d end d₂
-unfolding pair
-pair-printed at m end first second words d d₁ d₂ = printed-then at m end (field words first) (field (characters " ") second) d d₁ d₂
+  pub pair-printed : (words : List ℕ) (first second : ℕ)
+      → printed a ≡ printed page ++ field words first → printed b ≡ printed a ++ field (characters " ") second
+      → printed b ≡ printed page ++ pair words first second
+  unfolding pair
+  pair-printed words first second = printed-then page a b (field words first) (field (characters " ") second)
 
-module _ (at n end : ℕ) (d d′ : List ℕ) where
-  pub one-digit-printed : n < 10 → Printed at (field (characters "-0") n) d end d′ → Printed at (twoDigits n) d end d′
+  pub two-digits-printed : (n : ℕ) → printed a ≡ printed page ++ field (characters "-") (n / 10) → printed b ≡ printed a ++ digit (n % 10) ∷ []
+      → printed b ≡ printed page ++ twoDigits n
   unfolding twoDigits
-  one-digit-printed h p = rw (lt-ltb n 10 h) p
-
-  pub more-digits-printed : 10 ≤ n → Printed at (field (characters "-") n) d end d′ → Printed at (twoDigits n) d end d′
-  unfolding twoDigits
-  more-digits-printed h p = rw (le-ltb n 10 h) p
+  two-digits-printed n = printed-then page a b (field (characters "-") (n / 10)) (digit (n % 10) ∷ [])

@@ -22,7 +22,9 @@ pub fn show(text: &[u8], page: &mut [u8; PAGE_SIZE]) -> usize
     ensures { λ _. ⌜ now (page .exit) ≡ heldAfter (length (now (page .entry))) (result (pageOf (now (text .entry)))) ⌝ }
     ensures { λ r. ⌜ Counts r (now (page .exit)) ⌝ }
 {
-    let end = page::put_page(page, text);
-    numbers::slices::clear_from(page, end);
-    end
+    let printed = page::put_page(words::empty(*page), text);
+    let bytes = printed.bytes;
+    *page = bytes;
+    numbers::slices::clear_from(page, printed.end);
+    printed.end
 }

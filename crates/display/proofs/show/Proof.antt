@@ -1,7 +1,10 @@
 use borrow.Author.Needs.{needs}
-use Rattle.display.specs.PageLaws.{page-ends, page-holds, page-counted}
+use Rattle.display.specs.PageLaws.{page-shown}
 use Rattle.display.proofs.show.Statement.{statement}
 use Rattle.display.proofs.show.Tie as tie
+
+empty-requires : tie.Need-empty-requires
+empty-requires c κs = search needs
 
 put-page-requires : tie.Need-put-page-requires
 put-page-requires c κs = search needs
@@ -10,7 +13,10 @@ clear-from-requires : tie.Need-clear-from-requires
 clear-from-requires c κs = search needs
 
 returns : tie.Need-returns
-returns c = (search (needs, page-ends), (search (needs, page-holds), page-counted _ _ _ (c .clear-from .ensures) (search needs)))
+returns c =
+    let put = c .before .before .before in
+    page-shown _ _ _ _ (put .before .empty .ensures) (put .put-page .ensures .0) (put .put-page .ensures .1) (search needs)
+    _ (c .clear-from .ensures) (search needs)
 
 pub show-spec : {M : Type 1} → statement M
-show-spec = tie.close (tie.spec put-page-requires clear-from-requires returns)
+show-spec = tie.close (tie.spec empty-requires put-page-requires clear-from-requires returns)

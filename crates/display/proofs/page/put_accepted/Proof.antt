@@ -28,14 +28,8 @@ body-of-requires-3 c κs = search needs
 put-orders-requires-2 : tie.Need-put-orders-requires-2
 put-orders-requires-2 c κs = omega arith
 
-slice-aggregate-put : tie.Need-slice-aggregate-put
-slice-aggregate-put c = search needs
-
-put-requires : tie.Need-put-requires
-put-requires c κs = omega arith
-
-same-length : tie.Need-same-length
-same-length c = search needs
+put-character-requires : tie.Need-put-character-requires
+put-character-requires c κs = omega arith
 
 returns : tie.Need-returns
 returns c = (search image-printed, omega arith)
@@ -52,7 +46,5 @@ put-accepted-spec =
     slice-aggregate-put-orders-2
     body-of-requires-3
     put-orders-requires-2
-    slice-aggregate-put
-    put-requires
-    same-length
+    put-character-requires
     returns)

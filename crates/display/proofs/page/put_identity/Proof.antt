@@ -31,9 +31,6 @@ put-two-digits-requires c κs = omega arith
 put-two-digits-requires-2 : tie.Need-put-two-digits-requires-2
 put-two-digits-requires-2 c κs = omega arith
 
-same-length : tie.Need-same-length
-same-length c = search needs
-
 returns : tie.Need-returns
 returns c = (search identity-printed, omega arith)
 
@@ -50,5 +47,4 @@ put-identity-spec =
     put-field-requires-2
     put-two-digits-requires
     put-two-digits-requires-2
-    same-length
     returns)

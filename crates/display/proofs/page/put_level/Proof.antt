@@ -25,14 +25,8 @@ enum-known-verdict c = search needs
 put-refused-requires : tie.Need-put-refused-requires
 put-refused-requires c κs = omega arith
 
-same-length : tie.Need-same-length
-same-length c = search needs
-
 returns : tie.Need-returns
 returns c = (search level-accepted, omega arith)
-
-same-length-2 : tie.Need-same-length-2
-same-length-2 c = search needs
 
 returns-2 : tie.Need-returns-2
 returns-2 c = (search level-refused, omega arith)
@@ -48,7 +42,5 @@ put-level-spec =
     put-accepted-requires
     enum-known-verdict
     put-refused-requires
-    same-length
     returns
-    same-length-2
     returns-2)

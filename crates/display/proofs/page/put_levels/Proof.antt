@@ -8,10 +8,10 @@ use Rattle.display.proofs.page.put_levels.Tie as tie
 ruleset laws = (needs, levels-first, levels-more, levels-end)
 
 abbrev Inv-loop : tie.InvT-loop
-Inv-loop page₀ image at₀ level₀ page at level = LevelsPrinted image page₀ page at level
+Inv-loop page₀ image level₀ page level = LevelsPrinted page₀ image page level
 
 abbrev μ-loop : tie.MeasureT-loop
-μ-loop page₀ image at₀ level₀ page at level = lastLevel - level
+μ-loop page₀ image level₀ page level = lastLevel - level
 
 loop-holds : tie.Need-loop-holds Inv-loop μ-loop
 loop-holds c = search laws
@@ -28,22 +28,8 @@ loop-less c = search laws
 loop-again : tie.Need-loop-again Inv-loop μ-loop
 loop-again c = search laws
 
-same-length : tie.Need-same-length Inv-loop μ-loop
-same-length c = search laws
-
 returns : tie.Need-returns Inv-loop μ-loop
 returns c = search laws
 
 pub put-levels-spec : {M : Type 1} → statement M
-put-levels-spec =
-    tie.close
-    (tie.spec
-    Inv-loop
-    μ-loop
-    loop-holds
-    add-level
-    put-level-requires
-    loop-less
-    loop-again
-    same-length
-    returns)
+put-levels-spec = tie.close (tie.spec Inv-loop μ-loop loop-holds add-level put-level-requires loop-less loop-again returns)

@@ -16,19 +16,10 @@ cast-put-pair-2 c = search needs
 put-pair-requires : tie.Need-put-pair-requires
 put-pair-requires c κs = omega arith
 
-same-length : tie.Need-same-length
-same-length c = search needs
-
 returns : tie.Need-returns
 returns c = (search orders-printed, omega arith)
 
 pub put-orders-spec : {M : Type 1} → statement M
 put-orders-spec =
     tie.close
-    (tie.spec
-    read-prescales-requires
-    cast-put-pair
-    cast-put-pair-2
-    put-pair-requires
-    same-length
-    returns)
+    (tie.spec read-prescales-requires cast-put-pair cast-put-pair-2 put-pair-requires returns)

@@ -7,9 +7,6 @@ use Rattle.display.proofs.page.put_page.Tie as tie
 put-text-refused-requires : tie.Need-put-text-refused-requires
 put-text-refused-requires c κs = omega arith
 
-same-length : tie.Need-same-length
-same-length c = search needs
-
 returns : tie.Need-returns
 returns c = (search too-long-printed, omega arith)
 
@@ -37,24 +34,17 @@ enum-known-answer-2 c = search needs
 put-text-refused-requires-2 : tie.Need-put-text-refused-requires-2
 put-text-refused-requires-2 c κs = omega arith
 
-same-length-2 : tie.Need-same-length-2
-same-length-2 c = search needs
-
 returns-2 : tie.Need-returns-2
-returns-2 c = (search (needs, read-printed), omega arith)
-
-same-length-3 : tie.Need-same-length-3
-same-length-3 c = search needs
+returns-2 c = (search read-printed, omega arith)
 
 returns-3 : tie.Need-returns-3
-returns-3 c = (search (needs, refusal-printed), omega arith)
+returns-3 c = (search refusal-printed, omega arith)
 
 pub put-page-spec : {M : Type 1} → statement M
 put-page-spec =
     tie.close
     (tie.spec
     put-text-refused-requires
-    same-length
     returns
     slice-aggregate-read
     read-requires
@@ -64,7 +54,5 @@ put-page-spec =
     put-levels-requires
     enum-known-answer-2
     put-text-refused-requires-2
-    same-length-2
     returns-2
-    same-length-3
     returns-3)

@@ -10,25 +10,12 @@ slice-aggregate-put-pair c = search needs
 put-pair-requires : tie.Need-put-pair-requires
 put-pair-requires c κs = omega arith
 
-slice-aggregate-put : tie.Need-slice-aggregate-put
-slice-aggregate-put c = search needs
-
-put-requires : tie.Need-put-requires
-put-requires c κs = omega arith
-
-same-length : tie.Need-same-length
-same-length c = search needs
+put-character-requires : tie.Need-put-character-requires
+put-character-requires c κs = omega arith
 
 returns : tie.Need-returns
 returns c = (search refused-printed, omega arith)
 
 pub put-refused-spec : {M : Type 1} → statement M
 put-refused-spec =
-    tie.close
-    (tie.spec
-    slice-aggregate-put-pair
-    put-pair-requires
-    slice-aggregate-put
-    put-requires
-    same-length
-    returns)
+    tie.close (tie.spec slice-aggregate-put-pair put-pair-requires put-character-requires returns)

@@ -13,12 +13,9 @@ put-requires c κs = omega arith
 put-refused-requires : tie.Need-put-refused-requires
 put-refused-requires c κs = omega arith
 
-same-length : tie.Need-same-length
-same-length c = search needs
-
 returns : tie.Need-returns
 returns c = (search text-refused-printed, omega arith)
 
 pub put-text-refused-spec : {M : Type 1} → statement M
 put-text-refused-spec =
-    tie.close (tie.spec slice-aggregate-put put-requires put-refused-requires same-length returns)
+    tie.close (tie.spec slice-aggregate-put put-requires put-refused-requires returns)

@@ -13,18 +13,9 @@ slice-aggregate-put-field c = search needs
 put-field-requires-2 : tie.Need-put-field-requires-2
 put-field-requires-2 c κs = omega arith
 
-same-length : tie.Need-same-length
-same-length c = search needs
-
 returns : tie.Need-returns
 returns c = (search pair-printed, omega arith)
 
 pub put-pair-spec : {M : Type 1} → statement M
 put-pair-spec =
-    tie.close
-    (tie.spec
-    put-field-requires
-    slice-aggregate-put-field
-    put-field-requires-2
-    same-length
-    returns)
+    tie.close (tie.spec put-field-requires slice-aggregate-put-field put-field-requires-2 returns)
