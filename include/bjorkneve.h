@@ -53,14 +53,14 @@ enum {
 /* Why there is no result, the number of an answer: docs/NUMBERS.md says more of each, and what its detail is. */
 enum {
     BJORKNEVE_REFUSED_NOT_A_RECORD = 1, /* A line isn't a HEX record */
-    BJORKNEVE_REFUSED_CHECKSUM = 2, /* A line's checksum is wrong */
+    BJORKNEVE_REFUSED_CHECKSUM = 2, /* A line and its checksum don't agree */
     BJORKNEVE_REFUSED_RECORD_NOT_TAKEN = 3, /* A record of a type, an address or a size that this reader doesn't take */
     BJORKNEVE_REFUSED_TOO_LARGE = 4, /* The image in the text has more than 4,096 bytes, or more than the panel has lent for it */
     BJORKNEVE_REFUSED_NOT_AN_IMAGE = 5, /* Not a calibration image */
     BJORKNEVE_REFUSED_CONTENTS_COUNT = 6, /* The number of contents lines is 0 or above 16, or they don't fit in the image */
     BJORKNEVE_REFUSED_CONTENTS_LINE = 7, /* A contents line is wrong */
     BJORKNEVE_REFUSED_BODY_SUM = 8, /* A body's bytes don't add up to the sum in its contents line */
-    BJORKNEVE_REFUSED_UNKNOWN_KIND = 9, /* The image has a section that could change the reading and that this panel doesn't know */
+    BJORKNEVE_REFUSED_UNKNOWN_KIND = 9, /* The image has a section that could change the reading and that a panel of this level doesn't know */
     BJORKNEVE_REFUSED_MISSING_KIND = 10, /* A section that every image must have is missing */
     BJORKNEVE_REFUSED_IDENTITY = 11, /* The identity is wrong */
     BJORKNEVE_REFUSED_PRESSURE_SET = 12, /* The pressure set is wrong */
@@ -70,7 +70,7 @@ enum {
     BJORKNEVE_REFUSED_NO_ROOM = 17, /* The buffer for the text or the image is too short */
     BJORKNEVE_REFUSED_BUILDER_LINES = 18, /* There is no contents line or more than 16, or the kinds don't rise strictly from 1 to 255 */
     BJORKNEVE_REFUSED_BUILDER_LENGTHS = 19, /* The lengths don't add up to the bodies given, or the image would have more than 4,096 bytes */
-    BJORKNEVE_REFUSED_NO_SUCH_LEVEL = 20, /* The panel asked for a level that there isn't */
+    BJORKNEVE_REFUSED_NO_SUCH_LEVEL = 20, /* A level was asked for that there isn't */
     BJORKNEVE_REFUSED_SENSOR_CYCLES = 21, /* The number of sensor cycles is 0 or above 1,048,576 */
     BJORKNEVE_REFUSED_REFERENCE_CYCLES = 22, /* The number of reference cycles is 0 */
     BJORKNEVE_REFUSED_FREQUENCY = 23, /* The frequency lies outside 10,000 to 100,000 Hz */

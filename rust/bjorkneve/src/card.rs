@@ -64,33 +64,49 @@ macro_rules! named {
 
 const CHANNEL: Detail = Detail::OneOf(&[(1, "pressure channel"), (2, "temperature channel")]);
 const SET: Detail = Detail::OneOf(&[(2, "pressure set"), (3, "temperature set")]);
-const PERHAPS_ANOTHER_GAUGE: &str =
-    "It may be another gauge's image: compare its serial number, which the show program prints, \
-    with the one on the gauge. Or the two channels have traded places.";
+
+/// The last sentence of what to do where a gauge's counts give no reading.
+macro_rules! perhaps_faulty {
+    () => {
+        " If all that is right, the gauge may be faulty: don't use it."
+    };
+}
+
+const FETCH_AGAIN: &str =
+    "Load this file into no panel: a refused load clears what the panel had. \
+    Fetch it again from where it came, as a file and not by copy and paste. \
+    If the same fault comes again, ask the supplier for a new file. Never change a file.";
+const NEW_FILE: &str = "Ask the supplier for a new file.";
+const PERHAPS_ANOTHER_GAUGE: &str = concat!(
+    "It may be another gauge's file: compare its serial number, which `bjorkneve words` tells, with the one on the gauge. \
+    Or the two channels have traded places.",
+    perhaps_faulty!()
+);
 
 tables! {
 "While a text is loaded" {
     1 NOT_A_RECORD:
         "A line isn't a HEX record"
-        ": it doesn't start with a colon, has other characters than hexadecimal digits, or more or fewer of them than it says, \
-        or is empty, or doesn't end with LF or CR LF, as the last line must too. Or the end record is missing, or something follows it.";
+        ": it has characters too many, too few or wrong ones, or no line end (LF or CR LF). \
+        Or the end record is missing, or something follows it.";
         Detail::Is("the line, from 1; where the text stops too early or goes on too long, the line after the last good one");
-        "Send the text again, as a file and not by copying. If it comes back, ask the supplier for the file.";
+        FETCH_AGAIN;
     2 CHECKSUM:
-        "A line's checksum is wrong"
-        ": at least one character on that line has changed.";
+        "A line and its checksum don't agree"
+        ": the line was damaged on the way, or made wrong.";
         Detail::Is("the line");
-        "Send the text again. If it comes back at the same line, the file is damaged: ask for a new one. Never mend a checksum by hand.";
+        FETCH_AGAIN;
     3 RECORD_NOT_TAKEN:
         "A record of a type, an address or a size that this reader doesn't take"
         ".";
         Detail::Is("the line");
-        "Ask the supplier for plain records: type 00 from address 0 on without a gap, 1 to 255 bytes each, then type 01.";
+        "Ask the supplier for a file of plain records: type 00 from address 0 on without a gap, 1 to 255 bytes each, then type 01.";
     4 TOO_LARGE:
         "The image in the text has more than 4,096 bytes, or more than the panel has lent for it"
-        ". Or show, words or reading was given a text of more than 65,536 bytes.";
+        ". Or `bjorkneve` was given a text of more than 65,536 bytes.";
         Detail::Is("the line of the first record too many; 0 from the writer, and for a text that is too long");
-        "It isn't a calibration image, or it is the wrong file.";
+        "See whether it is the right file. If it is, ask the supplier. \
+        If `bjorkneve words` takes it and a panel doesn't, tell the panel's maker.";
 }
 "While an image is judged" {
     5 NOT_AN_IMAGE:
@@ -98,48 +114,51 @@ tables! {
         ": its first byte isn't hexadecimal 51, or it has fewer than 2 or more than 4,096 bytes. \
         A panel without an image says this as well.";
         Detail::Zero;
-        "Load an image. If you just did, it is the wrong file.";
+        "If a file is refused by this, it is the wrong one: ask the supplier for the right one. \
+        If a panel shows it without a load, load a good file.";
     6 CONTENTS_COUNT:
         "The number of contents lines is 0 or above 16, or they don't fit in the image"
         ".";
         Detail::Zero;
-        "Ask the supplier for a new image.";
+        NEW_FILE;
     7 CONTENTS_LINE:
         "A contents line is wrong"
         ": kinds don't rise from 1 on, its second byte isn't 0, or its offset isn't where the body before, \
         or for the first line the contents, ends. A panel says this too where it takes the buffer's size for the image's length.";
         Detail::Is("the contents line, from 0; the number of lines if only the end of the image is wrong");
-        "Ask the supplier for a new image; name the line.";
+        "Ask the supplier for a new file; name the contents line. \
+        If `bjorkneve words` takes it and a panel doesn't, tell the panel's maker.";
     8 BODY_SUM:
         "A body's bytes don't add up to the sum in its contents line"
-        ".";
+        ": the image was damaged, or made wrong.";
         Detail::Is("the contents line, from 0");
-        "The image was changed after it was made. Ask for a new one.";
+        NEW_FILE;
     9 UNKNOWN_KIND:
-        "The image has a section that could change the reading and that this panel doesn't know"
+        "The image has a section that could change the reading and that a panel of this level doesn't know"
         ".";
         Detail::Is("the kind, the lowest if there are several");
-        "The gauge needs a newer panel. Do not take out the section.";
+        "Use a panel of a level that takes the file, as `bjorkneve words` tells. \
+        If none does, ask the supplier which panel it is for. Nobody may take the section out.";
     10 MISSING_KIND:
         "A section that every image must have is missing"
         ".";
         Detail::OneOf(&[(1, "identity"), (2, "pressure set"), (3, "temperature set")]);
-        "Ask the supplier for a whole image.";
+        "Ask the supplier for a new file with this section.";
     11 IDENTITY:
         "The identity is wrong"
         ": size, date, or a minimum above its maximum.";
         Detail::Zero;
-        "Ask the supplier for a new image.";
+        NEW_FILE;
     12 PRESSURE_SET:
         "The pressure set is wrong"
         ": size, algorithm, order, multiplier, offset or a coefficient out of its limits.";
         Detail::Zero;
-        "Ask the supplier for a new image.";
+        NEW_FILE;
     13 TEMPERATURE_SET:
         "The temperature set is wrong"
         ": size, algorithm, order, multiplier, offset or a coefficient out of its limits.";
         Detail::Zero;
-        "Ask the supplier for a new image.";
+        NEW_FILE;
     15 TRIM:
         "The trim is wrong"
         ": size, unit, a field that must be 0, span or zero out of its limits. Level 2 only.";
@@ -151,7 +170,7 @@ tables! {
         Detail::Zero;
         "Have the note made again.";
     20 NO_SUCH_LEVEL:
-        "The panel asked for a level that there isn't"
+        "A level was asked for that there isn't"
         ".";
         Detail::Zero;
         "A fault of the panel's own program: tell its maker.";
@@ -178,17 +197,17 @@ tables! {
         "The number of sensor cycles is 0 or above 1,048,576"
         ".";
         CHANNEL;
-        "Check how the counter is set, and that the two counts haven't traded places; then cable and plug.";
+        concat!("Check how the counter is set, and that the two counts haven't traded places; then cable and plug.", perhaps_faulty!());
     22 REFERENCE_CYCLES:
         "The number of reference cycles is 0"
         ".";
         CHANNEL;
-        "The reference clock isn't counted: check the panel.";
+        "Check the panel: it doesn't count the reference clock.";
     23 FREQUENCY:
         "The frequency lies outside 10,000 to 100,000 Hz"
         ".";
         CHANNEL;
-        "Check cable and plug, and that the two counts haven't traded places.";
+        concat!("Check cable and plug, and that the two counts haven't traded places.", perhaps_faulty!());
     24 FAR_FROM_CALIBRATION:
         "A frequency lies too far from the one at which this gauge was calibrated"
         ".";

@@ -68,9 +68,9 @@ impl Detail {
 /// ```
 /// use bjorkneve::{fault_card, refused};
 ///
-/// let row = &fault_card::TABLES[1].rows[0];
-/// assert_eq!((row.number, row.name), (refused::NOT_AN_IMAGE, "NOT_AN_IMAGE"));
-/// assert_eq!(row.what_to_do, "Load an image. If you just did, it is the wrong file.");
+/// let row = &fault_card::TABLES[1].rows[1];
+/// assert_eq!((row.number, row.name), (refused::CONTENTS_COUNT, "CONTENTS_COUNT"));
+/// assert_eq!(row.what_to_do, "Ask the supplier for a new file.");
 /// ```
 #[derive(Debug, Clone, Copy, PartialEq, Eq)]
 pub struct Row {

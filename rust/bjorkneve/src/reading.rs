@@ -59,7 +59,8 @@ impl fmt::Display for Unit {
 
 /// Whether a reading lies outside the limits that the image states for its
 /// gauge, as a number: 1 for the temperature plus 2 for the pressure. A marked
-/// reading is worked out as always.
+/// reading is worked out as any other, and must not be relied on until counts,
+/// file and gauge were checked.
 ///
 /// ```
 /// use bjorkneve::{Channel, Counts, Level, Mark, ReferenceCycles, SensorCycles};

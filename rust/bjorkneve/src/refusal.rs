@@ -18,8 +18,8 @@ pub mod refused {
 /// card's words.
 ///
 /// ```
-/// let refusal = bjorkneve::Refusal { number: 8, detail: 2 };
-/// let said = "refused 8 2: A body's bytes don't add up to the sum in its contents line.";
+/// let refusal = bjorkneve::Refusal { number: 6, detail: 0 };
+/// let said = "refused 6 0: The number of contents lines is 0 or above 16, or they don't fit in the image.";
 /// assert_eq!(refusal.to_string(), said);
 /// ```
 #[derive(Debug, Clone, Copy, PartialEq, Eq)]
@@ -60,7 +60,7 @@ impl Refusal {
     ///
     /// ```
     /// let refusal = bjorkneve::Refusal { number: 22, detail: 1 };
-    /// let advice = "The reference clock isn't counted: check the panel.";
+    /// let advice = "Check the panel: it doesn't count the reference clock.";
     /// assert_eq!(refusal.what_to_do(), Some(advice));
     /// ```
     #[must_use]

@@ -69,23 +69,20 @@ fn is_option(word: &OsStr) -> bool {
 
 /// A whole number of up to 64 bits.
 pub fn number(name: &str, word: &OsStr) -> Result<u64, String> {
-    let digits = word
-        .to_str()
-        .filter(|word| word.bytes().all(|digit| digit.is_ascii_digit()));
-    let number = digits.and_then(|digits| digits.parse().ok());
-    number.ok_or_else(|| {
+    let is_digits = |word: &&str| !word.is_empty() && word.bytes().all(|c| c.is_ascii_digit());
+    let Some(digits) = word.to_str().filter(is_digits) else {
         let word = shown(word);
-        format!(
-            "{name} is '{word}': a whole number from 0 to {} was expected",
-            u64::MAX
-        )
-    })
+        return Err(format!(
+            "{name}: '{word}' is not a number as expected: digits only, without commas"
+        ));
+    };
+    let too_large = |_| format!("{name}: {digits} is too large: {} at most", u64::MAX);
+    digits.parse().map_err(too_large)
 }
 
-/// A level by its number; one beyond 32 bits is as little a level as the largest of 32.
-pub fn level_of(word: &OsStr) -> Result<u32, String> {
-    let level = number("LEVEL", word)?;
-    Ok(u32::try_from(level).unwrap_or(u32::MAX))
+/// The number of a level, whether or not there is one.
+pub fn level_of(word: &OsStr) -> Result<u64, String> {
+    number("LEVEL", word)
 }
 
 /// A word on the page, without characters that would change the page around it.

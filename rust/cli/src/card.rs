@@ -72,16 +72,21 @@ fn grouped(number: u32) -> String {
 const OPENING: &str = "\
 # The fault card
 
-Whenever a panel shows one of these numbers, there is no reading (a mark, below, is no such number). \
-A refused load leaves zeros where the image stood: the one loaded before is gone too, \
-and the panel shows 5 until a good one is loaded. The detail stands after the number.
+Whenever a panel shows one of these numbers, there is no reading. \
+Only a number after the word fault, or one that a panel shows as such, is on this card; a mark, below, is none. \
+The detail stands after the number.
+
+A supplier's file is a HEX text; the text holds an image, the gauge's data in sections. \
+After a refused load the panel has no gauge data, neither new nor old: it shows 5 and no reading until a good file is loaded. \
+So check a file with `bjorkneve words` before it is loaded.
 ";
 
 const CLOSING: &str = "
-Number 14 is free.
+14 isn't used.
 
-A reading has a mark: 1 if the temperature lies outside the gauge's limits, 2 if the pressure does, 3 if both do. \
-A marked reading is worked out as always; it lies outside the limits that the image states for its gauge.
+A reading has a mark: 1 if the temperature lies outside the gauge's limits, 2 if the pressure does, 3 if both do; else 0. \
+A marked reading is worked out as any other, but lies outside the limits that the file states for its gauge. \
+It must not be relied on until counts, file and gauge were checked.
 
 ## Names for programs
 

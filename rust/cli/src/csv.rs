@@ -2,11 +2,12 @@
 
 use crate::decimal::measured;
 use crate::descriptors;
-use crate::reading::counts_of;
+use crate::given::{counts_of, Given};
+use crate::reading::NO_READING;
 use crate::refusal::{place, tell, Refused};
 use crate::status::{Failure, Status};
 use crate::{levels, text};
-use bjorkneve::{Counts, LARGEST_IMAGE};
+use bjorkneve::{Counts, Refusal, LARGEST_IMAGE};
 use std::ffi::OsStr;
 use std::io::{self, BufRead, BufReader, Read, Write};
 
@@ -15,7 +16,7 @@ const LONGEST_LINE: usize = 255;
 
 pub fn program(
     file: &OsStr,
-    level: u32,
+    level: u64,
     out: &mut impl Write,
     errors: &mut impl Write,
 ) -> Result<Status, Failure> {
@@ -27,10 +28,19 @@ pub fn program(
     // On standard output a refusal of the text would be taken for the answer to a line.
     let image = match text::image(&text, &mut buffer) {
         Ok(image) => image,
-        Err(refusal) => return Ok(tell(errors, Refused::Text(&text), refusal)?),
+        Err(refusal) => return Ok(tell(errors, NO_READING, Refused::Text(&text), refusal)?),
     };
     if let Err(refusal) = levels::verdict(image, level) {
-        return Ok(tell(errors, Refused::Image(image, &[level]), refusal)?);
+        let given = Given {
+            level,
+            counts: None,
+        };
+        return Ok(tell(
+            errors,
+            NO_READING,
+            Refused::Image(image, given),
+            refusal,
+        )?);
     }
     let input = descriptors::input().map_err(no_counts)?;
     readings(BufReader::new(input), image, level, out)
@@ -44,7 +54,7 @@ fn no_counts(error: io::Error) -> String {
 pub fn readings(
     mut input: BufReader<impl Read>,
     image: &[u8],
-    level: u32,
+    level: u64,
     out: &mut impl Write,
 ) -> Result<Status, Failure> {
     let mut status = Status::Answered;
@@ -66,12 +76,12 @@ fn answer(
     number: u64,
     line: &[u8],
     image: &[u8],
-    level: u32,
+    level: u64,
 ) -> io::Result<Status> {
     let counts = match counts_in(line) {
         Ok(counts) => counts,
         Err(words) => {
-            writeln!(out, "error,{number},{}", quoted(&words))?;
+            writeln!(out, "error,line {number},{}", quoted(&words))?;
             return Ok(Status::NoAnswer);
         }
     };
@@ -79,25 +89,28 @@ fn answer(
         Ok(reading) => {
             let (pressure, temperature) =
                 (measured(reading.pressure), measured(reading.temperature));
-            writeln!(
-                out,
-                "reading,{pressure},{},{temperature},{}",
-                reading.unit, reading.mark.0
-            )?;
+            let (unit, mark) = (reading.unit, reading.mark.0);
+            let first = if mark == 0 { "reading" } else { "marked" };
+            writeln!(out, "{first},{pressure},{unit},{temperature},{mark}")?;
             Ok(Status::Answered)
         }
         Err(refusal) => {
             let mut words = refusal.what_happened().unwrap_or_default().to_string();
-            if let Some(place) = place(image, refusal) {
+            let given = Given {
+                level,
+                counts: Some(counts),
+            };
+            if let Some(place) = place(image, given, refusal) {
                 words.push_str(&format!(" Where: {place}."));
             }
-            writeln!(
-                out,
-                "refused,{},{},{}",
-                refusal.number,
-                refusal.detail,
-                quoted(&words)
-            )?;
+            let (
+                words,
+                Refusal {
+                    number: fault,
+                    detail,
+                },
+            ) = (quoted(&words), refusal);
+            writeln!(out, "refused,line {number},{fault},{detail},{words}")?;
             Ok(Status::Refused)
         }
     }

@@ -17,8 +17,6 @@ pub struct Fault<'a> {
     pub pointed: Range<usize>,
 }
 
-const LINE_ENDS: &str = "Every line, the last one too, must end with LF or CR LF.";
-
 /// The fault of the text that was refused so, by one of the numbers 1 to 4.
 pub fn fault(text: &[u8], refusal: Refusal) -> Fault<'_> {
     let Some(before) = usize::try_from(refusal.detail)
@@ -57,13 +55,10 @@ pub fn fault(text: &[u8], refusal: Refusal) -> Fault<'_> {
             0..line.characters.len(),
         ),
         refused::NOT_A_RECORD => not_a_record(&line),
-        refused::CHECKSUM => {
-            let end = line.characters.len();
-            (
-                "The last two digits are the checksum.".into(),
-                end.saturating_sub(2)..end,
-            )
-        }
+        refused::CHECKSUM => (
+            "The error may be anywhere in this line.".into(),
+            0..line.characters.len(),
+        ),
         refused::RECORD_NOT_TAKEN => not_taken(&line, good.iter().map(Line::count).sum()),
         _ => {
             let words =
@@ -120,11 +115,11 @@ fn not_a_record(line: &Line) -> (String, Range<usize>) {
     match characters[asked..] {
         [] if line.ended => (String::new(), 0..0),
         [] => (
-            format!("The last line has no line end. {LINE_ENDS}"),
+            "The last line has no line end, which every line must have.".into(),
             length..length + 1,
         ),
         [b'\r', ..] => (
-            format!("A CR stands here without an LF directly after it. {LINE_ENDS}"),
+            "A wrong line end: a CR stands here without an LF directly after it.".into(),
             asked..asked + 1,
         ),
         _ => (

@@ -1,7 +1,7 @@
 //! What an image that a panel has accepted says of its gauge.
 
-use crate::decimal::{decimal, measured};
 use crate::sections::{IDENTITY, NOTE, PRESSURE_SET, TEMPERATURE_SET, TRIM};
+use crate::trim::Trim;
 use bjorkneve::{Level, Refusal, Unit};
 use std::io::{self, Write};
 
@@ -25,13 +25,8 @@ pub struct Orders {
     pub temperature: u8,
 }
 
-/// What a pressure in psi is multiplied by, in 1/2^28, and what is added to it,
-/// in 1/65,536 of the unit.
-pub struct Trim {
-    pub unit: Unit,
-    pub span: u32,
-    pub zero: i64,
-}
+const COMPARE: &str = "compare the serial number with the one on the gauge, and see whether the date is recent enough for you. \
+    Whether the gauge itself is good, no file can say.";
 
 impl Gauge {
     /// The gauge of an image, once a panel of this level has accepted it: every
@@ -64,39 +59,45 @@ impl Gauge {
         format!("{:04}-{:02}-{:02}", self.year, self.month, self.day)
     }
 
+    /// What the file says, for whoever has the gauge at hand.
     pub fn tell(&self, out: &mut impl Write) -> io::Result<()> {
         let (serial, date) = (self.serial, self.date());
         writeln!(
             out,
-            "The gauge has serial number {serial} and was calibrated on {date}."
+            "It says that it is for the gauge with serial number {serial}, calibrated on {date}."
         )?;
         writeln!(
             out,
-            "Its limits are {} and {}.",
+            "The gauge is calibrated for {} and {}.",
             self.pressure_limits(),
             self.temperature_limits()
         )?;
+        if let Some(note) = &self.note {
+            let note = note.replace('\\', "\\\\").replace('"', "\\\"");
+            writeln!(
+                out,
+                "The supplier's note, not judged by this program: \"{note}\""
+            )?;
+        }
+        writeln!(out, "What to do: {COMPARE}")
+    }
+
+    /// What is worked with, for an engineer.
+    pub fn tell_engineer(&self, out: &mut impl Write) -> io::Result<()> {
+        let (pressure_set, temperature_set) = (&self.pressure_set, &self.temperature_set);
+        writeln!(out, "    The pressure set has {}.", pressure_set.in_words())?;
         writeln!(
             out,
-            "Its pressure set has {}.",
-            self.pressure_set.in_words()
-        )?;
-        writeln!(
-            out,
-            "Its temperature set has {}.",
-            self.temperature_set.in_words()
+            "    The temperature set has {}.",
+            temperature_set.in_words()
         )?;
         match &self.trim {
-            Some(trim) => trim.tell(out)?,
+            Some(trim) => trim.tell(out),
             None => writeln!(
                 out,
-                "Its pressure is shown in {}, without a trim.",
+                "    The pressure is shown in {}, without a trim.",
                 Unit::Psi
-            )?,
-        }
-        match &self.note {
-            Some(note) => writeln!(out, "Its note says \"{note}\"."),
-            None => Ok(()),
+            ),
         }
     }
 
@@ -127,31 +128,7 @@ impl Orders {
     }
 }
 
-impl Trim {
-    fn of(trim: &[u8]) -> Self {
-        Trim {
-            unit: Unit::of(trim[0]).expect("an accepted trim has a unit"),
-            span: u32::from_le_bytes(field(trim, 4)),
-            zero: i64::from_le_bytes(field(trim, 8)),
-        }
-    }
-
-    fn tell(&self, out: &mut impl Write) -> io::Result<()> {
-        let (unit, span, zero) = (self.unit, self.span, self.zero);
-        writeln!(
-            out,
-            "Its pressure is shown in {unit}, by the trim: zero + span × the pressure in psi,"
-        )?;
-        writeln!(
-            out,
-            "    span {span} / 2^28 = {},",
-            decimal(span.into(), 28, 9)
-        )?;
-        writeln!(out, "    zero {zero} / 65536 = {} {unit}.", measured(zero))
-    }
-}
-
-fn field<const N: usize>(body: &[u8], at: usize) -> [u8; N] {
+pub fn field<const N: usize>(body: &[u8], at: usize) -> [u8; N] {
     let bytes = body.get(at..at + N).and_then(|bytes| bytes.try_into().ok());
     bytes.expect("an accepted body has this field")
 }

@@ -9,14 +9,17 @@ mod decimal;
 mod descriptors;
 mod fault;
 mod gauge;
+mod given;
 mod help;
 mod levels;
 mod line;
+mod machine;
 mod reading;
 mod refusal;
 mod sections;
 mod status;
 mod text;
+mod trim;
 mod version;
 mod words;
 
@@ -35,7 +38,10 @@ fn main() -> ExitCode {
     let status = answer(&given, &mut errors).unwrap_or_else(|failure| {
         let words = match failure {
             Failure::Said(words) => words,
-            Failure::Output(error) => format!("the answer could not be written: {error}"),
+            Failure::Output(error) => {
+                let error = machine::in_words(&error);
+                format!("the answer, or a part of it, is lost: {error}")
+            }
         };
         // Where standard error is gone too, the exit status still tells.
         let _ = writeln!(errors, "bjorkneve: {words}");

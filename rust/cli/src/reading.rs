@@ -1,19 +1,18 @@
 //! `reading`: one reading in units, or why there is none.
 
-use crate::arguments::{level_of, number, Arguments};
+use crate::arguments::{level_of, Arguments};
 use crate::decimal::measured;
 use crate::gauge::Gauge;
+use crate::given::{counts_of, Given, COUNT_NAMES};
 use crate::refusal::{tell, Refused};
 use crate::status::{Failure, Status};
-use crate::{csv, text};
-use bjorkneve::{
-    Channel, Counts, Level, Reading, ReferenceCycles, Refusal, SensorCycles, LARGEST_IMAGE,
-};
+use crate::{csv, levels, text};
+use bjorkneve::{Counts, Reading, Refusal, LARGEST_IMAGE};
 use std::ffi::{OsStr, OsString};
 use std::io::{self, Write};
 
-/// Document 01's names: sensor and reference cycles of the pressure channel, then of the temperature channel.
-pub const COUNT_NAMES: [&str; 4] = ["NSP", "NRP", "NST", "NRT"];
+/// How a refusal opens where a reading was asked for.
+pub const NO_READING: &str = "There is no reading";
 
 pub fn program(
     given: &[OsString],
@@ -32,7 +31,7 @@ pub fn program(
     }
 }
 
-fn one(file: &OsStr, level: u32, counts: Counts, out: &mut impl Write) -> Result<Status, Failure> {
+fn one(file: &OsStr, level: u64, counts: Counts, out: &mut impl Write) -> Result<Status, Failure> {
     let text = text::read(file).map_err(|error| text::cannot_read(file, &error))?;
     Ok(reading(out, &text, level, counts)?)
 }
@@ -41,69 +40,68 @@ fn one(file: &OsStr, level: u32, counts: Counts, out: &mut impl Write) -> Result
 pub fn reading(
     out: &mut impl Write,
     text: &[u8],
-    level: u32,
+    level: u64,
     counts: Counts,
 ) -> io::Result<Status> {
     let mut buffer = [0; LARGEST_IMAGE];
     let image = match text::image(text, &mut buffer) {
         Ok(image) => image,
-        Err(refusal) => return tell(out, Refused::Text(text), refusal),
+        Err(refusal) => return tell(out, NO_READING, Refused::Text(text), refusal),
     };
     match taken(image, level, counts) {
-        Ok((gauge, reading)) => tell_reading(out, &gauge, &reading),
-        Err(refusal) => tell(out, Refused::Reading(image), refusal),
+        Ok((gauge, reading)) => tell_reading(out, level, &gauge, &reading),
+        Err(refusal) => {
+            let given = Given {
+                level,
+                counts: Some(counts),
+            };
+            tell(out, NO_READING, Refused::Image(image, given), refusal)
+        }
     }
 }
 
-fn taken(image: &[u8], level: u32, counts: Counts) -> Result<(Gauge, Reading), Refusal> {
-    let level = Level::try_from(level)?;
+fn taken(image: &[u8], number: u64, counts: Counts) -> Result<(Gauge, Reading), Refusal> {
+    let level = levels::level(number)?;
     let gauge = Gauge::accepted(image, level)?;
     Ok((gauge, bjorkneve::reading(image, level, counts)?))
 }
 
-fn tell_reading(out: &mut impl Write, gauge: &Gauge, reading: &Reading) -> io::Result<Status> {
-    writeln!(
-        out,
-        "pressure {} {}",
-        measured(reading.pressure),
-        reading.unit
-    )?;
-    writeln!(out, "temperature {} °C", measured(reading.temperature))?;
-    if reading.mark.temperature_outside() {
-        let limits = gauge.temperature_limits();
-        writeln!(
-            out,
-            "The temperature lies outside the gauge's limits, {limits}."
-        )?;
-    }
-    if reading.mark.pressure_outside() {
-        let limits = gauge.pressure_limits();
-        writeln!(
-            out,
-            "The pressure, before trim, lies outside the gauge's limits, {limits}."
-        )?;
-    }
+fn tell_reading(
+    out: &mut impl Write,
+    level: u64,
+    gauge: &Gauge,
+    reading: &Reading,
+) -> io::Result<Status> {
+    let (pressure, temperature) = (measured(reading.pressure), measured(reading.temperature));
+    writeln!(out, "serial number {}, level {level}", gauge.serial)?;
+    writeln!(out, "pressure {pressure} {}", reading.unit)?;
+    writeln!(out, "temperature {temperature} °C")?;
+    writeln!(out, "{}", limits_in_words(gauge, reading))?;
     Ok(Status::Answered)
 }
 
-/// The four counts in their order.
-pub fn counts_of(words: &[impl AsRef<OsStr>]) -> Result<Counts, String> {
-    let mut counts = [0; COUNT_NAMES.len()];
-    if words.len() != counts.len() {
-        return Err(format!(
-            "four counts were expected: {}",
-            COUNT_NAMES.join(",")
+/// Whether the reading lies within the gauge's limits, and what to do where it doesn't.
+fn limits_in_words(gauge: &Gauge, reading: &Reading) -> String {
+    let before_trim = |words| if gauge.trim.is_some() { words } else { "" };
+    let mut outside = Vec::new();
+    if reading.mark.pressure_outside() {
+        let (before_trim, limits) = (before_trim(" before trim"), gauge.pressure_limits());
+        outside.push(format!(
+            "the pressure{before_trim} lies outside the gauge's limits, {limits}"
         ));
     }
-    for ((count, name), word) in counts.iter_mut().zip(COUNT_NAMES).zip(words) {
-        *count = number(name, word.as_ref())?;
+    if reading.mark.temperature_outside() {
+        let limits = gauge.temperature_limits();
+        outside.push(format!(
+            "the temperature lies outside the gauge's limits, {limits}"
+        ));
     }
-    let channel = |sensor, reference| Channel {
-        sensor: SensorCycles(sensor),
-        reference: ReferenceCycles(reference),
-    };
-    Ok(Counts {
-        pressure: channel(counts[0], counts[1]),
-        temperature: channel(counts[2], counts[3]),
-    })
+    if outside.is_empty() {
+        let before_trim = before_trim(", the pressure before trim");
+        return format!("Both lie within the gauge's limits{before_trim}.");
+    }
+    format!(
+        "Caution: {}. Don't rely on this reading: check the counts, that the file is this gauge's, then the gauge.",
+        outside.join("; ")
+    )
 }

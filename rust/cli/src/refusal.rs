@@ -2,10 +2,9 @@
 
 use crate::caret;
 use crate::fault::fault;
+use crate::given::Given;
 use crate::levels;
-use crate::sections::{
-    counted, kind_in_words, IDENTITY, NOTE, PRESSURE_SET, TEMPERATURE_SET, TRIM,
-};
+use crate::sections::{self, counted, IDENTITY, NOTE, PRESSURE_SET, TEMPERATURE_SET, TRIM};
 use crate::status::Status;
 use bjorkneve::{refused, Refusal};
 use std::io::{self, Write};
@@ -14,36 +13,31 @@ use std::io::{self, Write};
 #[derive(Clone, Copy)]
 pub enum Refused<'a> {
     Text(&'a [u8]),
-    /// The image of a good text, by these levels.
-    Image(&'a [u8], &'a [u32]),
-    /// The reading of an image.
-    Reading(&'a [u8]),
+    /// The image of a good text, and what was given with it.
+    Image(&'a [u8], Given),
 }
 
-/// Tells a refusal, and is the status that it gives.
-pub fn tell(out: &mut impl Write, what: Refused, refusal: Refusal) -> io::Result<Status> {
-    let told = match what {
-        Refused::Text(_) => "The text is refused".into(),
-        Refused::Image(_, by) => levels::with_verb(by, "refuse") + " the image",
-        Refused::Reading(_) => "The reading is refused".into(),
-    };
-    writeln!(
-        out,
-        "{told}: number {}, detail {}.",
-        refusal.number, refusal.detail
-    )?;
+/// Tells a refusal after the words that open it, and is the status that it gives.
+pub fn tell(
+    out: &mut impl Write,
+    opening: &str,
+    what: Refused,
+    refusal: Refusal,
+) -> io::Result<Status> {
+    let Refusal { number, detail } = refusal;
+    writeln!(out, "{opening}: fault {number}, detail {detail}.")?;
     if let Some(words) = refusal.what_happened() {
         writeln!(out, "    What happened: {words}")?;
     }
     match what {
         Refused::Text(text) => tell_fault(out, text, refusal)?,
-        Refused::Image(image, _) | Refused::Reading(image) => {
-            if let Some(place) = place(image, refusal) {
+        Refused::Image(image, given) => {
+            if let Some(place) = place(image, given, refusal) {
                 writeln!(out, "    Where: {place}.")?;
             }
         }
     }
-    if let Some(words) = refusal.what_to_do() {
+    if let Some(words) = what_to_do(refusal) {
         writeln!(out, "    What to do: {words}")?;
     }
     Ok(Status::Refused)
@@ -70,8 +64,8 @@ fn tell_fault(out: &mut impl Write, text: &[u8], refusal: Refusal) -> io::Result
     Ok(())
 }
 
-/// Where in an image, or in what is done with it, the refusal says the fault is.
-pub fn place(image: &[u8], refusal: Refusal) -> Option<String> {
+/// Where in an image, or in what was given with it, the refusal says the fault is.
+pub fn place(image: &[u8], given: Given, refusal: Refusal) -> Option<String> {
     let section = |kind| Some(kind_in_words(kind));
     let size = counted(image.len(), "byte");
     match refusal.number {
@@ -106,10 +100,19 @@ pub fn place(image: &[u8], refusal: Refusal) -> Option<String> {
         refused::TRIM => section(TRIM),
         refused::NOTE => section(NOTE),
         refused::NO_SUCH_LEVEL => {
-            Some(format!("the levels are {}", levels::listed(&levels::all())))
+            let levels = levels::listed(&levels::all(), "and");
+            Some(format!("LEVEL is {}; levels are {levels}", given.level))
         }
-        _ => refusal.detail_means().map(Into::into),
+        _ => {
+            let place = refusal.detail_means()?;
+            let named = given.named(refusal).map(|words| format!(". {words}"));
+            Some(format!("{place}{}", named.unwrap_or_default()))
+        }
     }
+}
+
+fn kind_in_words(kind: u8) -> String {
+    format!("kind {kind}, {}", sections::name(kind))
 }
 
 /// The kind that a contents line states: the library finds no section in an image whose layout it refuses.
@@ -119,4 +122,21 @@ fn stated_kind(image: &[u8], line: u64) -> Option<u8> {
     image
         .get(HEAD + LINE * usize::try_from(line).ok()?)
         .copied()
+}
+
+/// The card's words; where a number that a person gave is refused, first that one.
+fn what_to_do(refusal: Refusal) -> Option<String> {
+    let words = refusal.what_to_do()?;
+    Some(match refusal.number {
+        refused::NO_SUCH_LEVEL => {
+            let levels = levels::listed(&levels::all(), "or");
+            format!("Give the panel's level, {levels}. Its maker tells which it is.")
+        }
+        refused::SENSOR_CYCLES | refused::REFERENCE_CYCLES | refused::FREQUENCY => {
+            let (first, rest) = words.split_at(1);
+            let then = first.to_lowercase() + rest;
+            format!("First check the counts that you gave. Then {then}")
+        }
+        _ => words.into(),
+    })
 }

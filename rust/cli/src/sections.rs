@@ -11,37 +11,29 @@ pub const NOTE: u8 = 129;
 /// Document 01: a kind below this may change a reading.
 const FIRST_WITHOUT_EFFECT: u8 = 128;
 
-/// A kind with its name, or with what holds of an unknown one.
-pub fn kind_in_words(kind: u8) -> String {
-    let name = match kind {
+/// A kind's name, or what holds of an unknown one.
+pub fn name(kind: u8) -> &'static str {
+    match kind {
         IDENTITY => "identity",
         PRESSURE_SET => "pressure set",
         TEMPERATURE_SET => "temperature set",
         TRIM => "trim",
         NOTE => "note",
-        _ if kind < FIRST_WITHOUT_EFFECT => "unknown, may change the reading",
-        _ => "unknown, never changes a reading",
-    };
-    format!("kind {kind}, {name}")
+        _ if kind < FIRST_WITHOUT_EFFECT => "unknown; by its number it may change a reading",
+        _ => "unknown; by its number it never changes a reading",
+    }
 }
 
-/// A list of the sections, if the layout is good.
+/// A list of the sections of an image whose layout is good.
 pub fn list(out: &mut impl Write, image: &[u8]) -> io::Result<()> {
-    if bjorkneve::layout(image).is_err() {
-        return Ok(());
-    }
     let sections: Vec<(u8, usize)> = (1..=u8::MAX)
         .filter_map(|kind| Some((kind, bjorkneve::find(image, kind.into())?.len())))
         .collect();
     let (size, many) = (image.len(), counted(sections.len(), "section"));
-    writeln!(out, "The image has {size} bytes and {many}:")?;
+    writeln!(out, "    The image has {size} bytes and {many}:")?;
     for (kind, length) in sections {
-        writeln!(
-            out,
-            "    {}, {}",
-            kind_in_words(kind),
-            counted(length, "byte")
-        )?;
+        let (size, name) = (counted(length, "byte"), name(kind));
+        writeln!(out, "        kind {kind}, {size}: {name}")?;
     }
     Ok(())
 }

@@ -1,6 +1,6 @@
 //! A HEX text read whole, from a file or from standard input.
 
-use crate::{arguments, descriptors};
+use crate::{arguments, descriptors, machine};
 use bjorkneve::{refused, Refusal, LONGEST_SHOWN_TEXT};
 use std::ffi::OsStr;
 use std::fs::File;
@@ -35,7 +35,7 @@ pub fn image<'a>(text: &[u8], buffer: &'a mut [u8]) -> Result<&'a [u8], Refusal>
 
 /// Why a file could not be read, in words.
 pub fn cannot_read(name: &OsStr, error: &io::Error) -> String {
-    format!("cannot read {}: {}", shown(name), error)
+    format!("cannot read {}: {}", shown(name), machine::in_words(error))
 }
 
 /// A file's name on the page.

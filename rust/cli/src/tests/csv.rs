@@ -38,13 +38,32 @@ fn each_form_of_a_line() {
 
 #[test]
 fn refused_counts() {
-    let refused =
-        "refused,22,2,\"The number of reference cycles is 0. Where: temperature channel.\"\n";
-    let (page, status) = answers(b"10000,2847876,10000,0\n10000,2847876,10000,1352875\n");
+    let refused = "refused,line 2,22,2,\"The number of reference cycles is 0. \
+        Where: temperature channel. NRT, the number that you gave, is 0.\"\n";
+    let (page, status) = answers(b"10000,2847876,10000,1352875\n10000,2847876,10000,0\n");
     assert_eq!(
         (page, status),
-        (format!("{refused}{READING}"), Status::Refused)
+        (format!("{READING}{refused}"), Status::Refused)
     );
+}
+
+#[test]
+fn marked_readings() {
+    for (counts, marked) in [
+        (
+            "10000,3280000,10000,1355000",
+            "marked,-0.70508,bar,61.03810,2\n",
+        ),
+        (
+            "10000,3280000,10000,1000000",
+            "marked,-2.33350,bar,-75.99638,3\n",
+        ),
+    ] {
+        assert_eq!(
+            answers(counts.as_bytes()),
+            (marked.into(), Status::Answered)
+        );
+    }
 }
 
 #[test]
@@ -64,16 +83,16 @@ fn lines_that_are_no_counts() {
     assert_eq!(page.lines().count(), lines.len());
     for (number, line) in (1..).zip(page.lines()) {
         assert!(
-            line.starts_with(&format!("error,{number},\"")) && line.ends_with('"'),
+            line.starts_with(&format!("error,line {number},\"")) && line.ends_with('"'),
             "{line}"
         );
     }
     assert!(
-        page.contains("error,4,\"NST is '\"\"3\"\"': a whole number"),
+        page.contains("error,line 4,\"NST: '\"\"3\"\"' is not a number"),
         "{page}"
     );
     assert!(
-        page.contains("error,7,\"the line has more than 255 characters\"\n"),
+        page.contains("error,line 7,\"the line has more than 255 characters\"\n"),
         "{page}"
     );
 }
@@ -108,7 +127,7 @@ fn an_input_that_fails_is_no_end() {
     assert!(
         matches!(failure, Failure::Said(words) if words.starts_with("cannot read standard input: "))
     );
-    assert!(page.starts_with(b"refused,5,0,"));
+    assert!(page.starts_with(b"refused,line 1,5,0,"));
 }
 
 #[test]

@@ -38,7 +38,7 @@ fn verdicts_are_those_of_show() {
         );
         for line in refused {
             let words: Vec<&str> = line.rsplit(' ').take(2).collect();
-            let numbers = format!("number {}, detail {}.", words[1], words[0]);
+            let numbers = format!(": fault {}, detail {}.\n", words[1], words[0]);
             assert!(page.contains(&numbers), "{name}: {page}");
         }
     }
@@ -82,8 +82,11 @@ fn unit_trim_and_note() {
         page.contains("span 18507980 / 2^28 = 0.068947598"),
         "{page}"
     );
+    // document 01's example: 4,518,550 / 65,536
+    assert!(page.contains(" 1000 psi as 68.94760 bar."), "{page}");
     let (page, _) = told(&example("noted"));
-    assert!(page.contains("Its note says \"SPB002-20-177\"."), "{page}");
+    let note = "The supplier's note, not judged by this program: \"SPB002-20-177\"\n";
+    assert!(page.contains(note), "{page}");
     assert!(page.contains("shown in psi, without a trim"), "{page}");
 }
 
@@ -91,16 +94,16 @@ fn unit_trim_and_note() {
 fn sections_have_kind_name_and_size() {
     let (page, _) = told(&example("kind200"));
     let sections = "\
-The image has 277 bytes and 4 sections:
-    kind 1, identity, 24 bytes
-    kind 2, pressure set, 156 bytes
-    kind 3, temperature set, 60 bytes
-    kind 200, unknown, never changes a reading, 3 bytes
+    The image has 277 bytes and 4 sections:
+        kind 1, 24 bytes: identity
+        kind 2, 156 bytes: pressure set
+        kind 3, 60 bytes: temperature set
+        kind 200, 3 bytes: unknown; by its number it never changes a reading
 ";
     assert!(page.ends_with(sections), "{page}");
     let (page, _) = told(&example("kind100"));
     assert!(
-        page.contains("    kind 100, unknown, may change the reading, 3 bytes\n"),
+        page.contains("    kind 100, 3 bytes: unknown; by its number it may change a reading\n"),
         "{page}"
     );
 }
@@ -112,10 +115,10 @@ fn unknown_kinds_below_128_may_change_the_reading() {
         &[vec![], vec![], vec![], vec![]],
     ));
     let sections = "\
-    kind 5, unknown, may change the reading, 0 bytes
-    kind 127, unknown, may change the reading, 0 bytes
-    kind 128, unknown, never changes a reading, 0 bytes
-    kind 255, unknown, never changes a reading, 0 bytes
+        kind 5, 0 bytes: unknown; by its number it may change a reading
+        kind 127, 0 bytes: unknown; by its number it may change a reading
+        kind 128, 0 bytes: unknown; by its number it never changes a reading
+        kind 255, 0 bytes: unknown; by its number it never changes a reading
 ";
     assert!(page.ends_with(sections), "{page}");
 }

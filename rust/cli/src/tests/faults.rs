@@ -65,8 +65,7 @@ fn a_text_that_stops_or_goes_on() {
 
 #[test]
 fn the_last_line_without_its_end() {
-    let words =
-        "The last line has no line end. Every line, the last one too, must end with LF or CR LF.";
+    let words = "The last line has no line end, which every line must have.";
     expect(":00000001FF", 1, words, "");
     let fault = fault(
         b":00000001FF",
@@ -79,7 +78,7 @@ fn the_last_line_without_its_end() {
     expect(
         ":00000001FF\r",
         1,
-        "A CR stands here without an LF directly after it.",
+        "A wrong line end: a CR stands here without an LF directly after it.",
         "\\x0D",
     );
 }
@@ -128,7 +127,7 @@ fn lines_that_are_no_records() {
     expect(
         ":00000001FF\r\r\n",
         1,
-        "A CR stands here without an LF directly after it.",
+        "A wrong line end: a CR stands here without an LF directly after it.",
         "\\x0D",
     );
     expect(
@@ -156,10 +155,13 @@ fn lines_that_are_no_records() {
 }
 
 #[test]
-fn a_wrong_checksum_is_pointed_at_and_not_mended() {
+fn a_line_that_its_checksum_denies_is_pointed_at_whole_and_not_mended() {
     let text = String::from_utf8(example("damaged")).expect("characters");
     let (number, words, above) = found(&text);
-    assert_eq!((number, above.as_str()), (2, "7D"));
+    assert_eq!(
+        (number, above.as_str()),
+        (2, text.lines().nth(2).expect("line 3"))
+    );
     assert!(
         !words.contains(|character: char| character.is_ascii_digit()),
         "{words}"
@@ -167,8 +169,8 @@ fn a_wrong_checksum_is_pointed_at_and_not_mended() {
     expect(
         ":00000001FE\r\n",
         2,
-        "The last two digits are the checksum.",
-        "FE",
+        "The error may be anywhere in this line.",
+        ":00000001FE",
     );
 }
 

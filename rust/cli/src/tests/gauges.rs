@@ -1,8 +1,9 @@
 //! What is told of a gauge and of a reading, beside what the library makes of them.
 
-use super::samples::{text_with, told};
+use super::samples::{image_of, text_with, told};
 use crate::decimal::measured;
 use crate::gauge::Gauge;
+use crate::trim::Trim;
 use bjorkneve::{Channel, Counts, Level, ReferenceCycles, SensorCycles, Unit};
 use compare::counts::Cycles;
 use compare::readings::case;
@@ -80,26 +81,59 @@ fn each_field_is_told_from_its_place() {
         (2, set(4, 1)),
         (3, set(2, 3)),
         (4, trim.concat()),
-        (129, b" well 12, \"spare\"".to_vec()),
+        (129, b" well \\12, \"spare\"".to_vec()),
         (255, vec![0]),
     ]));
     let expected = "\
-Level 2 accepts the image.
-The gauge has serial number 4275878552 and was calibrated on 2004-02-29.
-Its limits are -15 to 16000 psi and -20 to 150 °C.
-Its pressure set has order 4 in pressure and order 1 in temperature.
-Its temperature set has order 2 in pressure and order 3 in temperature.
-Its pressure is shown in kPa, by the trim: zero + span × the pressure in psi,
-    span 1850798000 / 2^28 = 6.894759834,
-    zero -66404 / 65536 = -1.01324 kPa.
-Its note says \" well 12, \"spare\"\".
-The image has 340 bytes and 6 sections:
-    kind 1, identity, 24 bytes
-    kind 2, pressure set, 108 bytes
-    kind 3, temperature set, 124 bytes
-    kind 4, trim, 16 bytes
-    kind 129, note, 17 bytes
-    kind 255, unknown, never changes a reading, 1 byte
+    The pressure set has order 4 in pressure and order 1 in temperature.
+    The temperature set has order 2 in pressure and order 3 in temperature.
+    The pressure is shown in kPa, by the trim: zero + span × the pressure in psi,
+        span 1850798000 / 2^28 = 6.894759834,
+        zero -66404 / 65536 = -1.01324 kPa.
+    So 0 psi is shown as -1.01324 kPa, and 1000 psi as 6893.74658 kPa.
+    The image has 341 bytes and 6 sections:
+        kind 1, 24 bytes: identity
+        kind 2, 108 bytes: pressure set
+        kind 3, 124 bytes: temperature set
+        kind 4, 16 bytes: trim
+        kind 129, 18 bytes: note
+        kind 255, 1 byte: unknown; by its number it never changes a reading
 ";
     assert!(page.ends_with(expected), "{page}");
+    let expected = "\
+It says that it is for the gauge with serial number 4275878552, calibrated on 2004-02-29.
+The gauge is calibrated for -15 to 16000 psi and -20 to 150 °C.
+The supplier's note, not judged by this program: \" well \\\\12, \\\"spare\\\"\"
+";
+    assert!(page.contains(expected), "{page}");
+}
+
+#[test]
+fn a_trim_shows_a_pressure_as_the_library_does() {
+    let good = || Channel {
+        sensor: SensorCycles(10_000),
+        reference: ReferenceCycles(1_352_875),
+    };
+    run("trims", |random| {
+        let trim = Trim {
+            unit: Unit::Bar,
+            span: random.between(1, 1 << 31) as u32,
+            zero: random.signed(40),
+        };
+        let pressure = random.signed(31);
+        // orders 0 and 0: the only coefficient is the pressure
+        let mut pressure_set = set(0, 0);
+        pressure_set.truncate(28);
+        pressure_set.extend_from_slice(&pressure.to_le_bytes());
+        let mut body = vec![u8::from(trim.unit), 0, 0, 0];
+        body.extend_from_slice(&trim.span.to_le_bytes());
+        body.extend_from_slice(&trim.zero.to_le_bytes());
+        let image = image_of(&text_with(&[(2, pressure_set), (4, body)]));
+        let counts = Counts {
+            pressure: good(),
+            temperature: good(),
+        };
+        let reading = bjorkneve::reading(&image, Level::Two, counts).expect("a reading");
+        assert_eq!(trim.shown_as(pressure), reading.pressure);
+    });
 }

@@ -1,13 +1,14 @@
 //! Each number that a panel may show, told with the fault card's words and its place.
 
 use super::samples::{build, changed_body, example, image_of, record, text_of, text_with, told};
-use crate::reading::{counts_of, reading};
+use crate::given::counts_of;
+use crate::reading::reading;
 use crate::status::Status;
 use bjorkneve::fault_card::TABLES;
 use bjorkneve::{refused, Refusal};
 
 /// A level and counts, with which a text's image is refused.
-type Asked = (u32, [&'static str; 4]);
+type Asked = (u64, [&'static str; 4]);
 
 /// What `words` tells of texts that are refused so, with where.
 fn of_texts() -> Vec<(u32, u64, Vec<u8>, &'static str)> {
@@ -26,7 +27,7 @@ fn of_texts() -> Vec<(u32, u64, Vec<u8>, &'static str)> {
             2,
             3,
             example("damaged"),
-            "line 3. The last two digits are the checksum.",
+            "line 3. The error may be anywhere in this line.",
         ),
         (
             3,
@@ -81,7 +82,7 @@ fn of_texts() -> Vec<(u32, u64, Vec<u8>, &'static str)> {
             9,
             100,
             example("kind100"),
-            "kind 100, unknown, may change the reading.",
+            "kind 100, unknown; by its number it may change a reading.",
         ),
         (9, 4, example("trimmed"), "kind 4, trim."),
         (10, 1, build(&[200], &[vec![]]), "kind 1, identity."),
@@ -120,34 +121,40 @@ fn of_counts() -> Vec<(u32, u64, Vec<u8>, Asked, &'static str)> {
     let far = ["1", "72", "10000", "1352875"];
     let far_below = ["10000", "2847876", "1", "720"];
     vec![
-        (20, 0, typical(), (3, good), "the levels are 1 and 2."),
+        (
+            20,
+            0,
+            typical(),
+            (1 << 32 | 1, good),
+            "LEVEL is 4294967297; levels are 1 and 2.",
+        ),
         (
             21,
             1,
             typical(),
             (1, ["0", "1", "1", "1"]),
-            "pressure channel.",
+            "pressure channel. NSP, the number that you gave, is 0.",
         ),
         (
             21,
             2,
             typical(),
             (1, ["10000", "2847876", "1048577", "1"]),
-            "temperature channel.",
+            "temperature channel. NST, the number that you gave, is 1048577.",
         ),
         (
             22,
             1,
             typical(),
             (1, ["1", "0", "1", "1"]),
-            "pressure channel.",
+            "pressure channel. NRP, the number that you gave, is 0.",
         ),
         (
             23,
             1,
             typical(),
             (1, ["1", "71", "1", "100"]),
-            "pressure channel.",
+            "pressure channel. NSP and NRP, the numbers that you gave, are 1 and 71.",
         ),
         (
             24,
@@ -175,12 +182,23 @@ fn check(page: &str, refusal: Refusal, place: &str) {
         .flat_map(|table| table.rows)
         .find(|row| row.number == number)
         .expect("a row");
+    // Whoever gave a level or counts looks at these first.
+    let to_do = match number {
+        refused::NO_SUCH_LEVEL => {
+            "Give the panel's level, 1 or 2. Its maker tells which it is.".into()
+        }
+        refused::SENSOR_CYCLES | refused::REFERENCE_CYCLES | refused::FREQUENCY => {
+            let rest = row.what_to_do.strip_prefix("Check").expect("what to check");
+            format!("First check the counts that you gave. Then check{rest}")
+        }
+        _ => row.what_to_do.to_string(),
+    };
     for words in [
         format!(
-            ": number {number}, detail {detail}.\n    What happened: {}\n    Where: {place}\n",
+            ": fault {number}, detail {detail}.\n    What happened: {}\n    Where: {place}\n",
             row.what_happened
         ),
-        format!("\n    What to do: {}\n", row.what_to_do),
+        format!("\n    What to do: {to_do}\n"),
     ] {
         assert!(page.contains(&words), "{words}: {page}");
     }
@@ -227,18 +245,13 @@ fn each_number_has_its_words_and_its_place() {
 fn a_note_that_level_2_refuses_is_not_shown() {
     let (page, status) = told(&text_with(&[(129, vec![0x1B, b'[', b'2', b'J'])]));
     assert_eq!(status, Status::Refused);
+    let first = "sample: panels of level 1 take this file, those of level 2 refuse it.\n\
+        It says that it is for the gauge with serial number 157879, ";
+    assert!(page.starts_with(first), "{page}");
+    let refused = "\nPanels of level 2 refuse it: fault 16, detail 0.\n";
+    assert!(page.contains(refused), "{page}");
     assert!(
-        page.starts_with(
-            "Level 1 accepts the image.\nLevel 2 refuses the image: number 16, detail 0.\n"
-        ),
-        "{page}"
-    );
-    assert!(
-        page.contains("The gauge has serial number 157879"),
-        "{page}"
-    );
-    assert!(
-        !page.contains('\x1B') && !page.contains("note says"),
+        !page.contains('\x1B') && !page.contains("supplier's note"),
         "{page}"
     );
 }

@@ -99,30 +99,34 @@ fn options_end_where_they_are_told_to() {
 #[test]
 fn arguments_that_are_no_numbers() {
     let file = example("typical");
-    let expected = "a whole number from 0 to 18446744073709551615 was expected";
+    let expected = "is not a number as expected: digits only, without commas";
     fails(
         &["reading", &file, "2", "1", "2", "3"],
         "reading takes FILE LEVEL NSP NRP NST NRT",
     );
     fails(
         &["reading", &file, "x", "1", "2", "3", "4"],
-        &format!("LEVEL is 'x': {expected}"),
+        &format!("LEVEL: 'x' {expected}"),
     );
     fails(
         &["reading", &file, "2", "1", "-2", "3", "4"],
-        &format!("NRP is '-2': {expected}"),
+        &format!("NRP: '-2' {expected}"),
     );
     fails(
         &["reading", &file, "2", "1", "2", "3", "18446744073709551616"],
-        &format!("NRT is '18446744073709551616': {expected}"),
+        "NRT: 18446744073709551616 is too large: 18446744073709551615 at most",
     );
     fails(
         &["reading", &file, "2", "+1", "2", "3", ""],
-        &format!("NSP is '+1': {expected}"),
+        &format!("NSP: '+1' {expected}"),
+    );
+    fails(
+        &["reading", &file, "2", "1", "2", "3", ""],
+        &format!("NRT: '' {expected}"),
     );
     fails(
         &["words", "--level", "1.5", &file],
-        &format!("LEVEL is '1.5': {expected}"),
+        &format!("LEVEL: '1.5' {expected}"),
     );
     fails(
         &["reading", "--csv", "-", "2"],
@@ -138,10 +142,14 @@ fn several_files_and_one_that_is_not_there() {
     assert!(matches!(status, Ok(Status::NoAnswer)));
     assert_eq!(
         errors,
-        "bjorkneve: cannot read none.hex: No such file or directory (os error 2)\n"
+        "\nbjorkneve: cannot read none.hex: there is no such file\n"
     );
-    let headings: Vec<&str> = page.lines().filter(|line| line.ends_with(".hex")).collect();
-    assert_eq!(headings, [&good, &bad, &good]);
+    let blocks: Vec<&str> = page.split("\n\n").collect();
+    let last = "2 taken by every level asked, 1 refused, 1 could not be read.\n";
+    assert_eq!((blocks.len(), blocks[3]), (4, last));
+    for (block, file) in blocks.iter().zip([&good, &bad, &good]) {
+        assert!(block.starts_with(&format!("{file}: ")), "{block}");
+    }
     assert!(matches!(
         run(&["words", &good, &bad]).0,
         Ok(Status::Refused)
@@ -158,35 +166,64 @@ fn one_level_alone() {
     let status = |level| run(&["words", "--level", level, &file]).0;
     assert!(matches!(status("1"), Ok(Status::Refused)));
     assert!(matches!(status("2"), Ok(Status::Answered)));
+    let first = |level, name| {
+        let (_, page, _) = run(&["words", "--level", level, &example(name)]);
+        let (line, _) = page.split_once('\n').expect("a line");
+        let (_, words) = line.rsplit_once(".hex: ").expect("a file's name");
+        words.to_string()
+    };
+    assert_eq!(
+        first("1", "trimmed"),
+        "no panel of level 1 takes this file."
+    );
+    assert_eq!(first("2", "trimmed"), "panels of level 2 take this file.");
     let (status, page, _) = run(&["words", &file, "--level", "4294967298"]);
     assert!(matches!(status, Ok(Status::Refused)));
-    assert!(
-        page.contains("refuses the image: number 20, detail 0."),
-        "{page}"
-    );
+    assert!(page.contains(": fault 20, detail 0.\n"), "{page}");
 }
 
 #[test]
 fn one_reading() {
-    let file = example("trimmed");
-    prints(
-        &[
-            "reading", &file, "2", "10000", "2847876", "10000", "1352875",
-        ],
-        "pressure 206.10799 bar\ntemperature 60.41754 °C\n",
-    );
-    let (_, page, _) = run(&[
-        "reading",
-        &example("typical"),
+    let reads = |name, level, references: [&str; 2], expected: &str| {
+        let [pressure, temperature] = references;
+        let file = example(name);
+        let counts = ["10000", pressure, "10000", temperature];
+        let expected = format!("serial number 157879, level {level}\n{expected}\n");
+        prints(
+            &[&["reading", &file, level], &counts[..]].concat(),
+            &expected,
+        );
+    };
+    let within = "Both lie within the gauge's limits";
+    let rely = "Don't rely on this reading: check the counts, that the file is this gauge's, then the gauge.";
+    reads(
+        "typical",
         "1",
-        "10000",
-        "3280000",
-        "10000",
-        "1355000",
-    ]);
-    let mark = "The pressure, before trim, lies outside the gauge's limits, 12 to 20000 psi.\n";
-    assert_eq!(
-        page,
-        format!("pressure -10.22635 psi\ntemperature 61.03810 °C\n{mark}")
+        ["2847876", "1352875"],
+        &format!("pressure 2989.34242 psi\ntemperature 60.41754 °C\n{within}."),
+    );
+    reads(
+        "trimmed",
+        "2",
+        ["2847876", "1352875"],
+        &format!(
+            "pressure 206.10799 bar\ntemperature 60.41754 °C\n{within}, the pressure before trim."
+        ),
+    );
+    let outside = "lies outside the gauge's limits,";
+    reads(
+        "typical",
+        "1",
+        ["3280000", "1355000"],
+        &format!("pressure -10.22635 psi\ntemperature 61.03810 °C\nCaution: the pressure {outside} 12 to 20000 psi. {rely}"),
+    );
+    reads(
+        "trimmed",
+        "2",
+        ["3280000", "1000000"],
+        &format!(
+            "pressure -2.33350 bar\ntemperature -75.99638 °C\nCaution: the pressure before trim {outside} 12 to 20000 psi; \
+            the temperature {outside} 25 to 175 °C. {rely}"
+        ),
     );
 }

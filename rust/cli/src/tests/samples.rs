@@ -70,9 +70,9 @@ pub fn record(address: u16, kind: u8, data: &[u8]) -> String {
     format!(":{digits}\n")
 }
 
-/// What `words` tells of a text, of every level.
+/// What `words` tells of a text, of every level, as of a file named `sample`.
 pub fn told(text: &[u8]) -> (String, Status) {
     let mut page = Vec::new();
-    let status = words(&mut page, text, &levels::all()).expect("a page in memory");
+    let status = words(&mut page, "sample", text, &levels::all()).expect("a page in memory");
     (String::from_utf8(page).expect("words"), status)
 }
