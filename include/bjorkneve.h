@@ -184,34 +184,34 @@ BJORKNEVE_MUST_USE BjorkneveAnswer bjorkneve_reading(
     BjorkneveCounts counts);
 
 /* The library has the same layout on every machine. Where a compiler has another one, this is refused. */
-BJORKNEVE_ASSERT(sizeof(BjorkneveVerdict) == 16);
-BJORKNEVE_ASSERT(offsetof(BjorkneveVerdict, number) == 0);
-BJORKNEVE_ASSERT(offsetof(BjorkneveVerdict, detail) == 8);
-BJORKNEVE_ASSERT(sizeof(BjorkneveFilled) == 24);
-BJORKNEVE_ASSERT(offsetof(BjorkneveFilled, number) == 0);
-BJORKNEVE_ASSERT(offsetof(BjorkneveFilled, detail) == 8);
-BJORKNEVE_ASSERT(offsetof(BjorkneveFilled, length) == 16);
-BJORKNEVE_ASSERT(sizeof(BjorknevePlace) == 24);
-BJORKNEVE_ASSERT(offsetof(BjorknevePlace, there) == 0);
-BJORKNEVE_ASSERT(offsetof(BjorknevePlace, offset) == 8);
-BJORKNEVE_ASSERT(offsetof(BjorknevePlace, length) == 16);
-BJORKNEVE_ASSERT(sizeof(BjorkneveSensorCycles) == 8);
-BJORKNEVE_ASSERT(offsetof(BjorkneveSensorCycles, cycles) == 0);
-BJORKNEVE_ASSERT(sizeof(BjorkneveReferenceCycles) == 8);
-BJORKNEVE_ASSERT(offsetof(BjorkneveReferenceCycles, cycles) == 0);
-BJORKNEVE_ASSERT(sizeof(BjorkneveChannel) == 16);
-BJORKNEVE_ASSERT(offsetof(BjorkneveChannel, sensor) == 0);
-BJORKNEVE_ASSERT(offsetof(BjorkneveChannel, reference) == 8);
-BJORKNEVE_ASSERT(sizeof(BjorkneveCounts) == 32);
-BJORKNEVE_ASSERT(offsetof(BjorkneveCounts, pressure) == 0);
-BJORKNEVE_ASSERT(offsetof(BjorkneveCounts, temperature) == 16);
-BJORKNEVE_ASSERT(sizeof(BjorkneveAnswer) == 40);
-BJORKNEVE_ASSERT(offsetof(BjorkneveAnswer, number) == 0);
-BJORKNEVE_ASSERT(offsetof(BjorkneveAnswer, detail) == 8);
-BJORKNEVE_ASSERT(offsetof(BjorkneveAnswer, pressure) == 16);
-BJORKNEVE_ASSERT(offsetof(BjorkneveAnswer, temperature) == 24);
-BJORKNEVE_ASSERT(offsetof(BjorkneveAnswer, unit) == 32);
-BJORKNEVE_ASSERT(offsetof(BjorkneveAnswer, mark) == 33);
+BJORKNEVE_ASSERT(sizeof(BjorkneveVerdict) == 16U);
+BJORKNEVE_ASSERT(offsetof(BjorkneveVerdict, number) == 0U);
+BJORKNEVE_ASSERT(offsetof(BjorkneveVerdict, detail) == 8U);
+BJORKNEVE_ASSERT(sizeof(BjorkneveFilled) == 24U);
+BJORKNEVE_ASSERT(offsetof(BjorkneveFilled, number) == 0U);
+BJORKNEVE_ASSERT(offsetof(BjorkneveFilled, detail) == 8U);
+BJORKNEVE_ASSERT(offsetof(BjorkneveFilled, length) == 16U);
+BJORKNEVE_ASSERT(sizeof(BjorknevePlace) == 24U);
+BJORKNEVE_ASSERT(offsetof(BjorknevePlace, there) == 0U);
+BJORKNEVE_ASSERT(offsetof(BjorknevePlace, offset) == 8U);
+BJORKNEVE_ASSERT(offsetof(BjorknevePlace, length) == 16U);
+BJORKNEVE_ASSERT(sizeof(BjorkneveSensorCycles) == 8U);
+BJORKNEVE_ASSERT(offsetof(BjorkneveSensorCycles, cycles) == 0U);
+BJORKNEVE_ASSERT(sizeof(BjorkneveReferenceCycles) == 8U);
+BJORKNEVE_ASSERT(offsetof(BjorkneveReferenceCycles, cycles) == 0U);
+BJORKNEVE_ASSERT(sizeof(BjorkneveChannel) == 16U);
+BJORKNEVE_ASSERT(offsetof(BjorkneveChannel, sensor) == 0U);
+BJORKNEVE_ASSERT(offsetof(BjorkneveChannel, reference) == 8U);
+BJORKNEVE_ASSERT(sizeof(BjorkneveCounts) == 32U);
+BJORKNEVE_ASSERT(offsetof(BjorkneveCounts, pressure) == 0U);
+BJORKNEVE_ASSERT(offsetof(BjorkneveCounts, temperature) == 16U);
+BJORKNEVE_ASSERT(sizeof(BjorkneveAnswer) == 40U);
+BJORKNEVE_ASSERT(offsetof(BjorkneveAnswer, number) == 0U);
+BJORKNEVE_ASSERT(offsetof(BjorkneveAnswer, detail) == 8U);
+BJORKNEVE_ASSERT(offsetof(BjorkneveAnswer, pressure) == 16U);
+BJORKNEVE_ASSERT(offsetof(BjorkneveAnswer, temperature) == 24U);
+BJORKNEVE_ASSERT(offsetof(BjorkneveAnswer, unit) == 32U);
+BJORKNEVE_ASSERT(offsetof(BjorkneveAnswer, mark) == 33U);
 
 /* bjorkneve_build for lengths that are kept as size_t, which has 32 bits on many a machine: section i, of count sections, has the kind
  * kinds[i] and a body of sizes[i] bytes. With more than 16 sections the first 17 are looked at, and the answer is 18 as it is for
