@@ -84,9 +84,21 @@ static BjorkneveChannel some_channel(uint64_t frequency) {
     return channel;
 }
 
+/* The header's own function, where the lengths fit in the size_t of every machine. */
+static void build_of_sizes(uint32_t room) {
+    size_t sizes[MOST_SECTIONS];
+    for (uint32_t i = 0; i < section_count; i++) {
+        if (lengths[i] > UINT32_MAX) return;
+        sizes[i] = (size_t)lengths[i];
+    }
+    lend(other, room);
+    count_filled(BUILD, bjorkneve_build_of_sizes(kinds, sizes, section_count, bodies, bodies_length, other, room), other, room);
+}
+
 static uint32_t build_image(void) {
     const uint32_t room = some_room(2 + 8 * section_count + bodies_length, BJORKNEVE_LARGEST_IMAGE);
     const uint32_t length_count = one_in(64) ? random_below(MOST_SECTIONS) : section_count;
+    if (one_in(4)) build_of_sizes(room);
     lend(image, room);
     LOOKED_AT(BUILD, const BjorkneveFilled built =
                          bjorkneve_build(kinds, section_count, lengths, length_count, bodies, bodies_length, image, room));

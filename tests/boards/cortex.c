@@ -16,13 +16,17 @@ void semihosting(uint32_t number, const void *argument) {
 static void reset(void) {
     for (uint32_t *to = data_start, *from = data_loaded; to != data_end;) *to++ = *from++;
     for (uint32_t *to = bss_start; to != bss_end;) *to++ = 0;
-    SYSTICK[1] = 0xffffff;
-    SYSTICK[2] = 0;
-    SYSTICK[0] = 5; /* on, at the processor's clock */
     end(main());
 }
 
 /* SysTick counts down, in 24 bits, at the board's clock, and the emulator is told to take 1,024 ns for each instruction. */
+void count_instructions(void) {
+    SYSTICK[0] = 0;
+    SYSTICK[1] = 0xffffff;
+    SYSTICK[2] = 0;
+    SYSTICK[0] = 5; /* on, at the processor's clock */
+}
+
 uint32_t instructions(void) { return (uint32_t)((uint64_t)(0xffffff - SYSTICK[2]) * (1000000000 / CLOCK_IN_KHZ) / 1024000); }
 
 static void fault(void) {

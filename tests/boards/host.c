@@ -4,4 +4,6 @@
 
 void put_text(const char *words) { fputs(words, stdout); }
 
+void count_instructions(void) {}
+
 uint32_t instructions(void) { return 0; }

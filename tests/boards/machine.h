@@ -6,7 +6,8 @@
 
 void put_text(const char *words);
 
-/* Instructions since some moment, as many as fit in 32 bits; always 0 where they are not counted. */
+/* Starts to count instructions, and gives those counted since, some 500,000 at most; 0 where they are not counted. */
+void count_instructions(void);
 uint32_t instructions(void);
 
 #endif

@@ -18,7 +18,7 @@ static void say_line(const char *name, uint32_t number) {
 int measure(void) {
     static const char *const names[CALLS] = {[READ] = "read", [WRITE] = "write", [LOAD] = "load", [LAYOUT] = "layout",
         [VERDICT] = "verdict", [FIND] = "find", [BUILD] = "build", [READING] = "reading"};
-    static uint8_t image[BJORKNEVE_LARGEST_IMAGE];
+    static _Alignas(8) uint8_t image[BJORKNEVE_LARGEST_IMAGE];
     static const BjorkneveCounts counts = {
         .pressure = {.sensor = {10000}, .reference = {2847876}},
         .temperature = {.sensor = {10000}, .reference = {1352875}},
@@ -29,14 +29,14 @@ int measure(void) {
         say_line(names[call], deepest[call]);
         if (MOST_STACK < deepest[call]) failed = 1;
     }
-    const uint32_t start = instructions();
-    const uint32_t nothing = instructions() - start;
-    const uint32_t before_load = instructions();
+    count_instructions();
+    const uint32_t nothing = instructions();
+    count_instructions();
     const BjorkneveFilled loaded = bjorkneve_load(example, sizeof example, BJORKNEVE_LEVEL_2, image, sizeof image);
-    say_line("instructions of load", instructions() - before_load - nothing);
-    const uint32_t before_reading = instructions();
+    say_line("instructions of load", instructions() - nothing);
+    count_instructions();
     const BjorkneveAnswer answer = bjorkneve_reading(image, loaded.length, BJORKNEVE_LEVEL_2, counts);
-    say_line("instructions of reading", instructions() - before_reading - nothing);
+    say_line("instructions of reading", instructions() - nothing);
     if (loaded.number != 0 || answer.number != 0) failed = 1;
     return failed;
 }

@@ -15,11 +15,17 @@ void semihosting(uint32_t number, const void *argument) {
                      : "memory");
 }
 
-uint32_t instructions(void) {
+static uint32_t counted(void) {
     uint32_t count;
     __asm__ volatile("csrr %0, minstret" : "=r"(count));
     return count;
 }
+
+static uint32_t first_count;
+
+void count_instructions(void) { first_count = counted(); }
+
+uint32_t instructions(void) { return counted() - first_count; }
 
 __attribute__((used)) static void started(void) {
     for (uint32_t *to = bss_start; to != bss_end;) *to++ = 0;

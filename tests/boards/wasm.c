@@ -5,4 +5,6 @@ __attribute__((import_name("put_text"))) void put_text_outside(const char *words
 
 void put_text(const char *words) { put_text_outside(words); }
 
+void count_instructions(void) {}
+
 uint32_t instructions(void) { return 0; }
