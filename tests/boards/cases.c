@@ -107,8 +107,10 @@ static uint32_t build_image(void) {
 }
 
 static void judge_image(uint32_t length) {
-    const uint32_t level = some_level(), kind = one_in(8) ? random_word() >> random_below(32) : kinds[random_below(MOST_SECTIONS)];
-    const BjorkneveCounts counts = {some_channel(pressure_frequency), some_channel(temperature_frequency)};
+    const uint32_t level = some_level(), kind = one_in(8) ? (uint32_t)random_bits(random_below(33)) : kinds[random_below(MOST_SECTIONS)];
+    BjorkneveCounts counts;
+    counts.pressure = some_channel(pressure_frequency);
+    counts.temperature = some_channel(temperature_frequency);
     LOOKED_AT(LAYOUT, const BjorkneveVerdict layout = bjorkneve_layout(image, length));
     count(LAYOUT, layout.number, layout.detail);
     LOOKED_AT(VERDICT, const BjorkneveVerdict verdict = bjorkneve_verdict(image, length, level));

@@ -5,16 +5,22 @@
 /* A full record of the writer has 44 characters. */
 enum { RECORD_LENGTH = 44 };
 
+/* Another byte at one of the first places. */
+static void change_byte(uint8_t *image, uint32_t places) {
+    const uint32_t place = random_below(places);
+    image[place] ^= (uint8_t)(1 + random_below(255));
+}
+
 uint32_t damage_image(uint8_t *image, uint32_t length) {
     const uint32_t contents = length < 2 ? length : 2 + 8 * (uint32_t)image[1];
     switch (random_below(8)) {
     case 0: return random_below(length + 1);
     case 1: return length == 0 ? 0 : length - 1;
     case 2: image[length] = 0; return length + 1;
-    case 3: if (length > 0) image[0] ^= (uint8_t)(1 + random_below(255)); return length;
+    case 3: if (length > 0) change_byte(image, 1); return length;
     case 4: if (length > 1) image[1] = (uint8_t)random_below(one_in(2) ? 18 : 256); return length;
-    case 5: if (contents > 0 && contents <= length) image[random_below(contents)] ^= (uint8_t)(1 + random_below(255)); return length;
-    default: if (length > 0) image[random_below(length)] ^= (uint8_t)(1 + random_below(255)); return length;
+    case 5: if (contents > 0 && contents <= length) change_byte(image, contents); return length;
+    default: if (length > 0) change_byte(image, length); return length;
     }
 }
 

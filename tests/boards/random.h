@@ -1,4 +1,5 @@
-/* Pseudo-random numbers from a seed, the same on every machine. */
+/* Pseudo-random numbers from a seed, the same on every machine. C leaves the order open in which most parts of an expression are
+ * worked out, so that one expression asks for two of them only where C says which comes first. */
 #ifndef RANDOM_H
 #define RANDOM_H
 

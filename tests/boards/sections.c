@@ -107,8 +107,8 @@ static void spoil_body(void) {
         lengths[at]--;
         lengths[at + 1]++;
     } else {
-        const uint32_t first = lengths[at] > 28 && one_in(2) ? 28 : (uint32_t)lengths[at];
-        bodies[start + random_below(first)] ^= (uint8_t)(1 + random_below(255));
+        const uint32_t first = lengths[at] > 28 && one_in(2) ? 28 : (uint32_t)lengths[at], place = random_below(first);
+        bodies[start + place] ^= (uint8_t)(1 + random_below(255));
     }
 }
 
