@@ -11,8 +11,9 @@
  * run at the same time, each with a buffer of its own for the result. In one call the buffer for the result must not overlap
  * another.
  *
- * A length counts the elements of its array. A null pointer with length 0 is an empty array; a null pointer with any other length
- * is not allowed. */
+ * A length counts the elements of its array, and has 64 bits on every machine. A null pointer with length 0 is an empty array; a null
+ * pointer with any other length is not allowed. The length of a result is never above that of the buffer lent for it, so that it fits
+ * in a size_t. */
 #ifndef BJORKNEVE_H
 #define BJORKNEVE_H
 
@@ -31,6 +32,13 @@ extern "C" {
 #define BJORKNEVE_MUST_USE [[nodiscard]]
 #else
 #define BJORKNEVE_MUST_USE
+#endif
+
+/* What must hold of a struct where the library is called. */
+#if defined(__cplusplus)
+#define BJORKNEVE_ASSERT(holds) static_assert(holds, "the library has another layout of this struct")
+#else
+#define BJORKNEVE_ASSERT(holds) _Static_assert(holds, "the library has another layout of this struct")
 #endif
 
 /* The version of the library that this header is for. */
@@ -89,14 +97,14 @@ typedef struct {
 typedef struct {
     uint32_t number;
     uint64_t detail;
-    size_t length;
+    uint64_t length;
 } BjorkneveFilled;
 
 /* Whether the kind is there, and where its body stands: its offset in the image and its length, 0 and 0 where it is not there. */
 typedef struct {
     bool there;
-    size_t offset;
-    size_t length;
+    uint64_t offset;
+    uint64_t length;
 } BjorknevePlace;
 
 /* Cycles that a gauge's sensor ran. */
@@ -134,42 +142,91 @@ typedef struct {
 } BjorkneveAnswer;
 
 /* Reads a HEX text into the image. Refused 1 to 4, with the line in the text as the detail. */
-BJORKNEVE_MUST_USE BjorkneveFilled bjorkneve_read(const uint8_t *text, size_t text_length, uint8_t *image, size_t image_length);
+BJORKNEVE_MUST_USE BjorkneveFilled bjorkneve_read(
+    const uint8_t *text, uint64_t text_length,
+    uint8_t *image, uint64_t image_length);
 
 /* Writes an image as a HEX text, which takes BJORKNEVE_LONGEST_WRITTEN_TEXT bytes for the largest image. Refused 4 or 17. */
-BJORKNEVE_MUST_USE BjorkneveFilled bjorkneve_write(const uint8_t *image, size_t image_length, uint8_t *text, size_t text_length);
+BJORKNEVE_MUST_USE BjorkneveFilled bjorkneve_write(
+    const uint8_t *image, uint64_t image_length,
+    uint8_t *text, uint64_t text_length);
 
 /* Reads a HEX text into the image and judges it as a panel of this level does. Refused as by bjorkneve_read, then as by
  * bjorkneve_verdict. */
 BJORKNEVE_MUST_USE BjorkneveFilled bjorkneve_load(
-    const uint8_t *text, size_t text_length,
+    const uint8_t *text, uint64_t text_length,
     uint32_t level,
-    uint8_t *image, size_t image_length);
+    uint8_t *image, uint64_t image_length);
 
 /* Judges an image's layout, and not what its sections hold. Refused 5 to 8. */
-BJORKNEVE_MUST_USE BjorkneveVerdict bjorkneve_layout(const uint8_t *image, size_t image_length);
+BJORKNEVE_MUST_USE BjorkneveVerdict bjorkneve_layout(const uint8_t *image, uint64_t image_length);
 
 /* Judges an image as a panel of this level does. Refused 20, then 5 to 13, 15 or 16. */
-BJORKNEVE_MUST_USE BjorkneveVerdict bjorkneve_verdict(const uint8_t *image, size_t image_length, uint32_t level);
+BJORKNEVE_MUST_USE BjorkneveVerdict bjorkneve_verdict(const uint8_t *image, uint64_t image_length, uint32_t level);
 
 /* Finds the section of a kind. No kind is there in an image whose layout is refused. The body of kind 1 begins with the gauge's
  * serial number, 4 bytes, the lowest first. */
-BJORKNEVE_MUST_USE BjorknevePlace bjorkneve_find(const uint8_t *image, size_t image_length, uint32_t kind);
+BJORKNEVE_MUST_USE BjorknevePlace bjorkneve_find(const uint8_t *image, uint64_t image_length, uint32_t kind);
 
 /* Builds an image of sections: section i has the kind kinds[i] and a body of lengths[i] bytes, and bodies are all of them joined.
  * Refused 18, 19 or 17; 18 too where kinds and lengths are not equally many. */
 BJORKNEVE_MUST_USE BjorkneveFilled bjorkneve_build(
-    const uint32_t *kinds, size_t kinds_length,
-    const size_t *lengths, size_t lengths_length,
-    const uint8_t *bodies, size_t bodies_length,
-    uint8_t *image, size_t image_length);
+    const uint32_t *kinds, uint64_t kinds_length,
+    const uint64_t *lengths, uint64_t lengths_length,
+    const uint8_t *bodies, uint64_t bodies_length,
+    uint8_t *image, uint64_t image_length);
 
 /* Takes the reading of a panel of this level, by an image that is judged anew at each call. Refused as by bjorkneve_verdict, then 21
  * to 26. */
 BJORKNEVE_MUST_USE BjorkneveAnswer bjorkneve_reading(
-    const uint8_t *image, size_t image_length,
+    const uint8_t *image, uint64_t image_length,
     uint32_t level,
     BjorkneveCounts counts);
+
+/* The library has the same layout on every machine. Where a compiler has another one, this is refused. */
+BJORKNEVE_ASSERT(sizeof(BjorkneveVerdict) == 16U);
+BJORKNEVE_ASSERT(offsetof(BjorkneveVerdict, number) == 0U);
+BJORKNEVE_ASSERT(offsetof(BjorkneveVerdict, detail) == 8U);
+BJORKNEVE_ASSERT(sizeof(BjorkneveFilled) == 24U);
+BJORKNEVE_ASSERT(offsetof(BjorkneveFilled, number) == 0U);
+BJORKNEVE_ASSERT(offsetof(BjorkneveFilled, detail) == 8U);
+BJORKNEVE_ASSERT(offsetof(BjorkneveFilled, length) == 16U);
+BJORKNEVE_ASSERT(sizeof(BjorknevePlace) == 24U);
+BJORKNEVE_ASSERT(offsetof(BjorknevePlace, there) == 0U);
+BJORKNEVE_ASSERT(offsetof(BjorknevePlace, offset) == 8U);
+BJORKNEVE_ASSERT(offsetof(BjorknevePlace, length) == 16U);
+BJORKNEVE_ASSERT(sizeof(BjorkneveSensorCycles) == 8U);
+BJORKNEVE_ASSERT(offsetof(BjorkneveSensorCycles, cycles) == 0U);
+BJORKNEVE_ASSERT(sizeof(BjorkneveReferenceCycles) == 8U);
+BJORKNEVE_ASSERT(offsetof(BjorkneveReferenceCycles, cycles) == 0U);
+BJORKNEVE_ASSERT(sizeof(BjorkneveChannel) == 16U);
+BJORKNEVE_ASSERT(offsetof(BjorkneveChannel, sensor) == 0U);
+BJORKNEVE_ASSERT(offsetof(BjorkneveChannel, reference) == 8U);
+BJORKNEVE_ASSERT(sizeof(BjorkneveCounts) == 32U);
+BJORKNEVE_ASSERT(offsetof(BjorkneveCounts, pressure) == 0U);
+BJORKNEVE_ASSERT(offsetof(BjorkneveCounts, temperature) == 16U);
+BJORKNEVE_ASSERT(sizeof(BjorkneveAnswer) == 40U);
+BJORKNEVE_ASSERT(offsetof(BjorkneveAnswer, number) == 0U);
+BJORKNEVE_ASSERT(offsetof(BjorkneveAnswer, detail) == 8U);
+BJORKNEVE_ASSERT(offsetof(BjorkneveAnswer, pressure) == 16U);
+BJORKNEVE_ASSERT(offsetof(BjorkneveAnswer, temperature) == 24U);
+BJORKNEVE_ASSERT(offsetof(BjorkneveAnswer, unit) == 32U);
+BJORKNEVE_ASSERT(offsetof(BjorkneveAnswer, mark) == 33U);
+
+/* bjorkneve_build for lengths that are kept as size_t, which has 32 bits on many a machine: section i, of count sections, has the kind
+ * kinds[i] and a body of sizes[i] bytes. With more than 16 sections the first 17 are looked at, and the answer is 18 as it is for
+ * all of them. */
+BJORKNEVE_MUST_USE static inline BjorkneveFilled bjorkneve_build_of_sizes(
+    const uint32_t *kinds, const size_t *sizes, size_t count,
+    const uint8_t *bodies, size_t bodies_length,
+    uint8_t *image, size_t image_length) {
+    uint64_t lengths[17] = {0};
+    const size_t looked_at = (count < 17U) ? count : 17U;
+    for (size_t i = 0U; i < looked_at; i++) {
+        lengths[i] = sizes[i];
+    }
+    return bjorkneve_build(kinds, looked_at, lengths, looked_at, bodies, bodies_length, image, image_length);
+}
 
 #ifdef __cplusplus
 }

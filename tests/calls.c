@@ -49,15 +49,34 @@ static void limits(void) {
     expect(bjorkneve_verdict(NULL, 0, BJORKNEVE_LEVEL_2 + 1).number == BJORKNEVE_REFUSED_NO_SUCH_LEVEL, "no level above the last");
 }
 
+/* Lengths that are kept as size_t: the same image, and the same answer where there are more sections than the header's table has. */
+static void sizes(void) {
+    static const uint8_t bodies[20] = {1, 2, 3};
+    uint32_t kinds[20];
+    size_t sizes[20];
+    for (uint32_t i = 0; i < 20; i++) kinds[i] = 200 + i, sizes[i] = 1;
+    for (size_t count = 0; count <= 20; count++) {
+        static uint8_t image[BJORKNEVE_LARGEST_IMAGE];
+        uint64_t lengths[20];
+        for (size_t i = 0; i < 20; i++) lengths[i] = sizes[i];
+        const BjorkneveFilled built = bjorkneve_build(kinds, count, lengths, count, bodies, count, image, sizeof image);
+        const BjorkneveFilled by_sizes = bjorkneve_build_of_sizes(kinds, sizes, count, bodies, count, dirty(), sizeof image);
+        expect(by_sizes.number == built.number && by_sizes.detail == built.detail && by_sizes.length == built.length, "an answer by sizes");
+        expect(memcmp(buffer, image, sizeof image) == 0, "an image by sizes");
+        expect((built.number == 0) == (1 <= count && count <= 16), "1 to 16 sections");
+    }
+    expect(bjorkneve_build_of_sizes(NULL, NULL, 0, NULL, 0, NULL, 0).number == 18, "an image of no sizes");
+}
+
 /* A reading of the trimmed example, built anew with this unit, this lowest pressure and this highest temperature. */
-static BjorkneveAnswer trimmed(const uint8_t *image, size_t length, uint8_t unit, uint16_t pmin, uint8_t tmax) {
+static BjorkneveAnswer trimmed(const uint8_t *image, uint64_t length, uint8_t unit, uint16_t pmin, uint8_t tmax) {
     static uint8_t bodies[BJORKNEVE_LARGEST_IMAGE], anew[BJORKNEVE_LARGEST_IMAGE];
     const uint32_t kinds[] = {1, 2, 3, 4};
     const BjorkneveCounts counts = {
         .pressure = {.sensor = {10000}, .reference = {2847876}},
         .temperature = {.sensor = {10000}, .reference = {1352875}},
     };
-    size_t lengths[4], all = 0, trim = 0;
+    uint64_t lengths[4], all = 0, trim = 0;
     for (size_t i = 0; i < 4; i++) {
         const BjorknevePlace place = bjorkneve_find(image, length, kinds[i]);
         memcpy(bodies + all, image + place.offset, place.length);
@@ -74,7 +93,7 @@ static BjorkneveAnswer trimmed(const uint8_t *image, size_t length, uint8_t unit
 }
 
 /* The names of units, and the mark's bits: 2,989 psi and 60 degrees. */
-static void readings(const uint8_t *image, size_t length) {
+static void readings(const uint8_t *image, uint64_t length) {
     static const struct { uint8_t unit; uint16_t pmin; uint8_t tmax, mark; } cases[] = {
         {BJORKNEVE_UNIT_PSI, 2989, 61, 0},
         {BJORKNEVE_UNIT_BAR, 2989, 60, BJORKNEVE_MARK_TEMPERATURE},
@@ -92,7 +111,7 @@ static void readings(const uint8_t *image, size_t length) {
 int main(int count, char **words) {
     static const uint8_t end[] = ":00000001FF\n", two[] = ":020000005101AC\n:00000001FF\n", image[] = {0x51, 0x01};
     const uint32_t kinds[] = {200, 201};
-    const size_t lengths[] = {2, 0};
+    const uint64_t lengths[] = {2, 0};
     const BjorkneveChannel channel = {.sensor = {1}, .reference = {720}};
     const BjorkneveCounts counts = {.pressure = channel, .temperature = channel}, none = {0};
 
@@ -122,6 +141,7 @@ int main(int count, char **words) {
     expect(place.there && place.offset == 20 && place.length == 0, "an empty body is there");
     expect(!bjorkneve_find(buffer, 20, 456).there, "kind 456 is not kind 200");
 
+    sizes();
     limits();
     FILE *file = count == 2 ? fopen(words[1], "rb") : NULL;
     if (!file) return 2;

@@ -1,9 +1,9 @@
 /* A right use of the header, and by name wrong ones that no compiler may pass over: tests/c compiles each, as C11 and as C++17. */
 #include "bjorkneve.h"
 
-BjorkneveAnswer used(const uint8_t *image, size_t length, BjorkneveSensorCycles sensor, BjorkneveReferenceCycles reference);
+BjorkneveAnswer used(const uint8_t *image, uint64_t length, BjorkneveSensorCycles sensor, BjorkneveReferenceCycles reference);
 
-BjorkneveAnswer used(const uint8_t *image, size_t length, BjorkneveSensorCycles sensor, BjorkneveReferenceCycles reference) {
+BjorkneveAnswer used(const uint8_t *image, uint64_t length, BjorkneveSensorCycles sensor, BjorkneveReferenceCycles reference) {
 #if defined EXCHANGED_WHERE_LISTED
     BjorkneveChannel channel = {reference, sensor};
 #else
@@ -27,16 +27,17 @@ BjorkneveAnswer used(const uint8_t *image, size_t length, BjorkneveSensorCycles 
 }
 
 #if defined DROPPED
-void dropped(uint8_t *bytes, size_t length, const uint32_t *kinds, const size_t *lengths, BjorkneveCounts counts);
+void dropped(uint8_t *bytes, size_t size, const uint32_t *kinds, const uint64_t *lengths, const size_t *sizes, BjorkneveCounts counts);
 
-void dropped(uint8_t *bytes, size_t length, const uint32_t *kinds, const size_t *lengths, BjorkneveCounts counts) {
-    bjorkneve_read(NULL, 0, bytes, length);
-    bjorkneve_write(NULL, 0, bytes, length);
-    bjorkneve_load(NULL, 0, BJORKNEVE_LEVEL_2, bytes, length);
-    bjorkneve_layout(bytes, length);
-    bjorkneve_verdict(bytes, length, BJORKNEVE_LEVEL_2);
-    bjorkneve_find(bytes, length, 1);
-    bjorkneve_build(kinds, 1, lengths, 1, NULL, 0, bytes, length);
-    bjorkneve_reading(bytes, length, BJORKNEVE_LEVEL_2, counts);
+void dropped(uint8_t *bytes, size_t size, const uint32_t *kinds, const uint64_t *lengths, const size_t *sizes, BjorkneveCounts counts) {
+    bjorkneve_read(NULL, 0, bytes, size);
+    bjorkneve_write(NULL, 0, bytes, size);
+    bjorkneve_load(NULL, 0, BJORKNEVE_LEVEL_2, bytes, size);
+    bjorkneve_layout(bytes, size);
+    bjorkneve_verdict(bytes, size, BJORKNEVE_LEVEL_2);
+    bjorkneve_find(bytes, size, 1);
+    bjorkneve_build(kinds, 1, lengths, 1, NULL, 0, bytes, size);
+    bjorkneve_build_of_sizes(kinds, sizes, 1, NULL, 0, bytes, size);
+    bjorkneve_reading(bytes, size, BJORKNEVE_LEVEL_2, counts);
 }
 #endif

@@ -10,9 +10,9 @@ enum { ROOM = 1 << 20, PAINT = 0xc3, MOST = 16 * 1024 };
 
 static uint8_t image[BJORKNEVE_LARGEST_IMAGE], other[BJORKNEVE_LARGEST_IMAGE];
 static uint8_t text[BJORKNEVE_LONGEST_SHOWN_TEXT], written[BJORKNEVE_LONGEST_WRITTEN_TEXT];
-static size_t image_length, text_length;
+static uint64_t image_length, text_length;
 static const uint32_t kinds[] = {1, 2};
-static const size_t lengths[] = {100, 100};
+static const uint64_t lengths[] = {100, 100};
 static const BjorkneveCounts counts = {
     .pressure = {.sensor = {10000}, .reference = {1800000}},
     .temperature = {.sensor = {10000}, .reference = {1250000}},

@@ -97,5 +97,12 @@ pub fn build<'a>(
     bodies: &[u8],
     buffer: &'a mut [u8],
 ) -> Result<&'a [u8], Refusal> {
-    raw::build(kinds, lengths, bodies, buffer).part(buffer)
+    // More than 16 lines are refused, whichever they are, so 17 stand for all.
+    let mut wide = [0; 17];
+    for (wide, length) in wide.iter_mut().zip(lengths) {
+        *wide = *length as u64;
+    }
+    let kinds = &kinds[..kinds.len().min(wide.len())];
+    let wide = &wide[..lengths.len().min(wide.len())];
+    raw::build(kinds, wide, bodies, buffer).part(buffer)
 }

@@ -81,11 +81,12 @@ impl Both {
         size: usize,
         random: &mut Random,
     ) -> Answer<usize> {
+        let wide: Vec<u64> = lengths.iter().map(|length| *length as u64).collect();
         self.fill(
             format_args!("kinds {kinds:?} lengths {lengths:?} bodies {}", Hex(bodies)),
             size,
             random,
-            |image| raw::build(kinds, lengths, bodies, image),
+            |image| raw::build(kinds, &wide, bodies, image),
             |image| bjorkneve::build(kinds, lengths, bodies, image),
             |image| reference::build(kinds, lengths, bodies, image),
         )
@@ -119,7 +120,7 @@ impl Both {
         assert_eq!(ours, theirs, "ours, the reference's: size {size} {given}");
         let numbers = (told.number, told.detail, told.length);
         match ours {
-            Ok(length) => assert_eq!(numbers, (0, 0, length)),
+            Ok(length) => assert_eq!(numbers, (0, 0, length as u64)),
             Err((number, detail)) => assert_eq!(numbers, (number, detail, 0)),
         }
         let length = ours.unwrap_or(0);

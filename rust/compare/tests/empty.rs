@@ -43,18 +43,19 @@ fn empty_slices() {
 #[test]
 fn no_address() {
     let mut end = END.to_vec();
+    let length = end.len() as u64;
     // SAFETY: every length is 0, so nothing is read or written through the
     // null pointers; the one text has its own length beside it.
     unsafe {
         let read = raw::bjorkneve_read(null(), 0, null_mut(), 0);
         assert_eq!((read.number, read.detail, read.length), (1, 1, 0));
-        let read = raw::bjorkneve_read(end.as_ptr(), end.len(), null_mut(), 0);
+        let read = raw::bjorkneve_read(end.as_ptr(), length, null_mut(), 0);
         assert_eq!((read.number, read.detail, read.length), (0, 0, 0));
         let load = raw::bjorkneve_load(null(), 0, 1, null_mut(), 0);
         assert_eq!((load.number, load.detail, load.length), (1, 1, 0));
         let write = raw::bjorkneve_write(null(), 0, null_mut(), 0);
         assert_eq!((write.number, write.detail, write.length), (17, 0, 0));
-        let write = raw::bjorkneve_write(null(), 0, end.as_mut_ptr(), end.len());
+        let write = raw::bjorkneve_write(null(), 0, end.as_mut_ptr(), length);
         assert_eq!((write.number, write.detail, write.length), (0, 0, 12));
         let layout = raw::bjorkneve_layout(null(), 0);
         assert_eq!((layout.number, layout.detail), (5, 0));

@@ -20,7 +20,7 @@ pub struct BjorkneveVerdict {
 pub struct BjorkneveFilled {
     pub number: u32,
     pub detail: u64,
-    pub length: usize,
+    pub length: u64,
 }
 
 /// A reading.
@@ -42,8 +42,8 @@ pub struct BjorkneveAnswer {
 #[allow(missing_docs)]
 pub struct BjorknevePlace {
     pub there: bool,
-    pub offset: usize,
-    pub length: usize,
+    pub offset: u64,
+    pub length: u64,
 }
 
 #[inline]
@@ -67,7 +67,9 @@ impl BjorkneveFilled {
     /// never above the buffer's, so the cut changes nothing.
     #[inline]
     pub fn part(self, buffer: &[u8]) -> Result<&[u8], Refusal> {
-        judged(self.number, self.detail).map(|()| &buffer[..self.length.min(buffer.len())])
+        judged(self.number, self.detail)?;
+        let length = usize::try_from(self.length).unwrap_or(buffer.len());
+        Ok(&buffer[..length.min(buffer.len())])
     }
 }
 
@@ -97,6 +99,8 @@ impl BjorknevePlace {
         if !self.there {
             return None;
         }
-        Some(self.offset..self.offset.checked_add(self.length)?)
+        let offset = usize::try_from(self.offset).ok()?;
+        let length = usize::try_from(self.length).ok()?;
+        Some(offset..offset.checked_add(length)?)
     }
 }

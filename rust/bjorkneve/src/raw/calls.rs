@@ -11,7 +11,14 @@ use crate::Counts;
 pub fn read(text: &[u8], image: &mut [u8]) -> BjorkneveFilled {
     // SAFETY: both pointers are good for the lengths beside them, the lent
     // image overlaps nothing, and neither is kept.
-    unsafe { c::bjorkneve_read(text.as_ptr(), text.len(), image.as_mut_ptr(), image.len()) }
+    unsafe {
+        c::bjorkneve_read(
+            text.as_ptr(),
+            text.len() as u64,
+            image.as_mut_ptr(),
+            image.len() as u64,
+        )
+    }
 }
 
 /// `bjorkneve_write`.
@@ -19,7 +26,14 @@ pub fn read(text: &[u8], image: &mut [u8]) -> BjorkneveFilled {
 pub fn write(image: &[u8], text: &mut [u8]) -> BjorkneveFilled {
     // SAFETY: both pointers are good for the lengths beside them, the lent
     // text overlaps nothing, and neither is kept.
-    unsafe { c::bjorkneve_write(image.as_ptr(), image.len(), text.as_mut_ptr(), text.len()) }
+    unsafe {
+        c::bjorkneve_write(
+            image.as_ptr(),
+            image.len() as u64,
+            text.as_mut_ptr(),
+            text.len() as u64,
+        )
+    }
 }
 
 /// `bjorkneve_load`.
@@ -30,10 +44,10 @@ pub fn load(text: &[u8], level: u32, image: &mut [u8]) -> BjorkneveFilled {
     unsafe {
         c::bjorkneve_load(
             text.as_ptr(),
-            text.len(),
+            text.len() as u64,
             level,
             image.as_mut_ptr(),
-            image.len(),
+            image.len() as u64,
         )
     }
 }
@@ -42,38 +56,38 @@ pub fn load(text: &[u8], level: u32, image: &mut [u8]) -> BjorkneveFilled {
 #[inline]
 pub fn layout(image: &[u8]) -> BjorkneveVerdict {
     // SAFETY: the pointer is good for reading the length beside it.
-    unsafe { c::bjorkneve_layout(image.as_ptr(), image.len()) }
+    unsafe { c::bjorkneve_layout(image.as_ptr(), image.len() as u64) }
 }
 
 /// `bjorkneve_verdict`.
 #[inline]
 pub fn verdict(image: &[u8], level: u32) -> BjorkneveVerdict {
     // SAFETY: the pointer is good for reading the length beside it.
-    unsafe { c::bjorkneve_verdict(image.as_ptr(), image.len(), level) }
+    unsafe { c::bjorkneve_verdict(image.as_ptr(), image.len() as u64, level) }
 }
 
 /// `bjorkneve_find`.
 #[inline]
 pub fn find(image: &[u8], kind: u32) -> BjorknevePlace {
     // SAFETY: the pointer is good for reading the length beside it.
-    unsafe { c::bjorkneve_find(image.as_ptr(), image.len(), kind) }
+    unsafe { c::bjorkneve_find(image.as_ptr(), image.len() as u64, kind) }
 }
 
 /// `bjorkneve_build`.
 #[inline]
-pub fn build(kinds: &[u32], lengths: &[usize], bodies: &[u8], image: &mut [u8]) -> BjorkneveFilled {
+pub fn build(kinds: &[u32], lengths: &[u64], bodies: &[u8], image: &mut [u8]) -> BjorkneveFilled {
     // SAFETY: each pointer is aligned and good for the number of elements
     // beside it, the lent image overlaps nothing, and none is kept.
     unsafe {
         c::bjorkneve_build(
             kinds.as_ptr(),
-            kinds.len(),
+            kinds.len() as u64,
             lengths.as_ptr(),
-            lengths.len(),
+            lengths.len() as u64,
             bodies.as_ptr(),
-            bodies.len(),
+            bodies.len() as u64,
             image.as_mut_ptr(),
-            image.len(),
+            image.len() as u64,
         )
     }
 }
@@ -82,5 +96,5 @@ pub fn build(kinds: &[u32], lengths: &[usize], bodies: &[u8], image: &mut [u8]) 
 #[inline]
 pub fn reading(image: &[u8], level: u32, counts: Counts) -> BjorkneveAnswer {
     // SAFETY: the pointer is good for reading the length beside it.
-    unsafe { c::bjorkneve_reading(image.as_ptr(), image.len(), level, counts) }
+    unsafe { c::bjorkneve_reading(image.as_ptr(), image.len() as u64, level, counts) }
 }

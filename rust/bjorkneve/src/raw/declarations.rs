@@ -1,4 +1,5 @@
-//! The functions of libbjorkneve.a, as in the header.
+//! The functions of libbjorkneve.a, as in the header: a length has 64 bits on
+//! every machine.
 
 use super::{BjorkneveAnswer, BjorkneveFilled, BjorknevePlace, BjorkneveVerdict};
 use crate::Counts;
@@ -7,47 +8,46 @@ use crate::Counts;
 extern "C" {
     pub fn bjorkneve_read(
         text: *const u8,
-        text_length: usize,
+        text_length: u64,
         image: *mut u8,
-        image_length: usize,
+        image_length: u64,
     ) -> BjorkneveFilled;
 
     pub fn bjorkneve_write(
         image: *const u8,
-        image_length: usize,
+        image_length: u64,
         text: *mut u8,
-        text_length: usize,
+        text_length: u64,
     ) -> BjorkneveFilled;
 
     pub fn bjorkneve_load(
         text: *const u8,
-        text_length: usize,
+        text_length: u64,
         level: u32,
         image: *mut u8,
-        image_length: usize,
+        image_length: u64,
     ) -> BjorkneveFilled;
 
-    pub fn bjorkneve_layout(image: *const u8, image_length: usize) -> BjorkneveVerdict;
+    pub fn bjorkneve_layout(image: *const u8, image_length: u64) -> BjorkneveVerdict;
 
-    pub fn bjorkneve_verdict(image: *const u8, image_length: usize, level: u32)
-        -> BjorkneveVerdict;
+    pub fn bjorkneve_verdict(image: *const u8, image_length: u64, level: u32) -> BjorkneveVerdict;
 
-    pub fn bjorkneve_find(image: *const u8, image_length: usize, kind: u32) -> BjorknevePlace;
+    pub fn bjorkneve_find(image: *const u8, image_length: u64, kind: u32) -> BjorknevePlace;
 
     pub fn bjorkneve_build(
         kinds: *const u32,
-        kinds_length: usize,
-        lengths: *const usize,
-        lengths_length: usize,
+        kinds_length: u64,
+        lengths: *const u64,
+        lengths_length: u64,
         bodies: *const u8,
-        bodies_length: usize,
+        bodies_length: u64,
         image: *mut u8,
-        image_length: usize,
+        image_length: u64,
     ) -> BjorkneveFilled;
 
     pub fn bjorkneve_reading(
         image: *const u8,
-        image_length: usize,
+        image_length: u64,
         level: u32,
         counts: Counts,
     ) -> BjorkneveAnswer;
