@@ -8,7 +8,7 @@ use native.Mathlib.Omega.{arith}
 use borrow.Author.Tests.{ltb-true, ltb-false, leb-true, leb-false, eqb-true, eqb-false}
 use lib.Dec.{T, leb, ltb, eqb}
 use lib.IntN.{ℤ, pos, negℤ, natAbs}
-use lib.Signed.{leZ, ltZ, _≤ℤ_, _<ℤ_}
+use lib.Signed.{leZ, ltZ, _<ℤ_}
 use Rattle.paper.specs.Words.{Not, Outside, Beyond}
 use Rattle.paper.specs.Table.{row}
 use Rattle.laws.specs.Cases.{split, decide, never}
@@ -24,12 +24,6 @@ use Rattle.agreement.specs.TableLaws.{Judges}
 passed : (b : Bool) → T b → b ≡ true
 passed true t = refl
 passed false t = absurd t
-
-pub order-tested : (a b : ℤ) → a ≤ℤ b → leZ a b ≡ true
-order-tested a b h = passed (leZ a b) (h .le)
-
-pub tested-order : (a b : ℤ) → leZ a b ≡ true → a ≤ℤ b
-tested-order a b e = record { le = rw e tt }
 
 pub less-tested : (a b : ℤ) → a <ℤ b → ltZ a b ≡ true
 less-tested a b h = passed (ltZ a b) (h .lt)
