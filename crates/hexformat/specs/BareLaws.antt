@@ -9,30 +9,7 @@ use lib.Dec.{eqb}
 use lib.ListN.{length, take, drop, getD, length-append, take-append-drop, drop-of-length-le}
 use lib.Seq.{drop-cons, getD-append-seam, take-append-seam, getD-append-add, take-append-add}
 use Rattle.hextext.specs.Text.{bare}
-
--- no place of the list holds c
-abbrev pub Without : ℕ → List ℕ → Type 0
-Without c l = (i : ℕ) → getD l i 0 ≡ c → ⊥
-
-pub without-append : (c : ℕ) (l m : List ℕ) → Without c l → Without c m → Without c (l ++ m)
-without-append c [] m v w i e = w i e
-without-append c (b ∷ l) m v w zero e = v 0 e
-without-append c (b ∷ l) m v w (suc i) e = without-append c l m (λ j. v (suc j)) w i e
-
-pub without-one : (c b : ℕ) → 0 < c → (b ≡ c → ⊥) → Without c (b ∷ [])
-without-one c b h n zero e = n e
-without-one c b h n (suc i) e = omega arith
-
--- a list of n + 1 elements is n and one more
-pub snoc : (l : List ℕ) (n : ℕ) → length l ≡ n + 1 → l ≡ take n l ++ getD l n 0 ∷ []
-snoc l n e =
-    let h : length l ≤ suc n = omega arith in
-    let d : drop n l ≡ getD l n 0 ∷ [] = rw (drop-cons l n 0 (omega arith), drop-of-length-le l h) in
-    sym (take-append-drop n l) ∙ ap (λ (m : List ℕ). take n l ++ m) d
-
-pub bare-without : (l : List ℕ) → Without 13 l → bare l ≡ l
-unfolding bare
-bare-without l w = rw (ne-eqb (getD l (length l - 1) 0) 13 (w (length l - 1)))
+use Rattle.hextext.specs.WithoutLaws.{without-one, bare-without}
 
 pub bare-return : (l : List ℕ) → bare (l ++ 13 ∷ []) ≡ l
 unfolding bare

@@ -16,8 +16,9 @@ use Rattle.hexformat.specs.Format.{GoodText}
 use Rattle.hexformat.specs.Damage.{SameDigit, SpareReturn}
 use Rattle.hexformat.specs.SpelledLaws.{digit-of}
 use Rattle.hexformat.specs.SumLaws.{same-digit, same-bytes, same-either-way, same-bytes-exchanged}
-use Rattle.hexformat.specs.BareLaws.{snoc, bare-return, bare-append, bare-on, bare-last}
-use Rattle.hexformat.specs.ReadingLaws.{refused-not, same-result, ended}
+use Rattle.hexformat.specs.BareLaws.{bare-return, bare-append, bare-on, bare-last}
+use Rattle.hextext.specs.TextLaws.{ended}
+use Rattle.hexformat.specs.ReadingLaws.{refused-not, same-result}
 use Rattle.hexformat.specs.DifferenceLaws.{digit-inside, return-inside, formed-odd, longer-by-one, GoodRecord, read-line-good, no-empty-line, starts-colon, no-colon, reads-on, UpToDifference, good-up-to-difference}
 
 -- ---- they differ in one character
@@ -220,7 +221,7 @@ no-longer l c e f =
     let h = formed-long (l ++ c ∷ []) f in
     decide (eqb (getD l n 0) 13)
     (λ (q : eqb (getD l n 0) 13 ≡ true).
-    let p : l ≡ take n l ++ 13 ∷ [] = snoc l n (omega (arith, longer-by-one l c)) ∙ ap (λ (b : ℕ). take n l ++ b ∷ []) (eqb-true (getD l n 0) 13 q) in
+    let p : l ≡ take n l ++ 13 ∷ [] = last-apart l n (omega (arith, longer-by-one l c)) ∙ ap (λ (b : ℕ). take n l ++ b ∷ []) (eqb-true (getD l n 0) 13 q) in
     return-inside (take n l) (c ∷ []) (rw (p, append-assoc (take n l) (13 ∷ []) (c ∷ [])) at f))
     (λ (q : eqb (getD l n 0) 13 ≡ false). formed-odd l (l ++ c ∷ []) (rw q at e) f (longer-by-one l c))
 

@@ -18,7 +18,8 @@ use Rattle.hextext.specs.declared.Record.{Record}
 use Rattle.hextext.specs.declared.Record.the-variants.{Data, End, Fault}
 use Rattle.hexformat.specs.Format.{GoodText}
 use Rattle.hexformat.specs.BareLaws.{bare-return, bare-on, bare-last}
-use Rattle.hexformat.specs.ReadingLaws.{refused-not, ended}
+use Rattle.hextext.specs.TextLaws.{ended}
+use Rattle.hexformat.specs.ReadingLaws.{refused-not}
 use Rattle.hexformat.specs.FormatSaysLaws.{reads-good}
 
 -- ---- formed lines

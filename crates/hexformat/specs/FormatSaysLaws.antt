@@ -16,8 +16,9 @@ use Rattle.hextext.specs.declared.Record.the-variants.{Data, End, Fault}
 use Rattle.hexformat.specs.Format.{Fields, Form, Balanced, IsData, IsEnd, DataLines, none, next, GoodText}
 use Rattle.hexformat.specs.Faults.{NoLineFeed, WholeLine, Breaks, noForm, notBalanced, neither, noRoom, Refuses, stops, breaks, goesOn}
 use Rattle.hexformat.specs.SpelledLaws.{spelled-small}
-use Rattle.hexformat.specs.BareLaws.{without-append, without-one}
-use Rattle.hexformat.specs.ReadingLaws.{reading-line, reading-form, judge-balanced, judge-unbalanced}
+use Rattle.hextext.specs.WithoutLaws.{without-append, without-one}
+use Rattle.hextext.specs.TextLaws.{reading-line}
+use Rattle.hexformat.specs.ReadingLaws.{reading-form, judge-balanced, judge-unbalanced}
 use Rattle.hexformat.specs.JudgedLaws.{Judged, more, end, fault, judged, judge-noForm, typed-data, typed-full, typed-end, typed-other}
 
 -- what the format says of an answer

@@ -9,6 +9,7 @@ use lib.Dec.{eqb, ltb, leb}
 use lib.ListN.{length, take, getD, length-append}
 use lib.Seq.{length-take-le, take-append-seam}
 use Rattle.laws.specs.Cases.{split, decide, never, both-left, both-right}
+use Rattle.laws.specs.Lists.{last-apart, ends-with}
 use Rattle.laws.specs.Sums.{total}
 use Rattle.hextext.specs.Record.{bytesOf, recordBytes, countOf, dataOf, formed, typed, judge}
 use Rattle.hextext.specs.RecordLaws.{formed-long, formed-colon, formed-digits, formed-length, judge-unformed}
@@ -17,7 +18,8 @@ use Rattle.hextext.specs.declared.Record.{Record}
 use Rattle.hextext.specs.declared.Record.the-variants.{Data, End, Fault}
 use Rattle.hexformat.specs.Format.{Spelled, LineEnd, lf, crlf, Fields, bytes, Form, Balanced, IsData, IsEnd}
 use Rattle.hexformat.specs.Faults.{Breaks, noForm, notBalanced, neither, noRoom}
-use Rattle.hexformat.specs.BareLaws.{snoc, bare-without, bare-return}
+use Rattle.hextext.specs.WithoutLaws.{bare-without}
+use Rattle.hexformat.specs.BareLaws.{bare-return}
 use Rattle.hexformat.specs.SpelledLaws.{spelled-bytes, spelled-of, spelled-small}
 use Rattle.hexformat.specs.ReadingLaws.{data-bytes, formed-spelled, colon-without, judge-balanced, judge-unbalanced}
 
@@ -100,7 +102,7 @@ fields-bytes (n ∷ a ∷ c ∷ t ∷ l) e h =
     let q : 4 + n ≡ suc (suc (suc (suc n))) = omega arith in
     let high : (a * 256 + c) / 256 ≡ a = omega arith in
     let low : (a * 256 + c) % 256 ≡ c = omega arith in
-    rw (length-take-le n l (omega arith), q, high, low) (ap (λ (m : List ℕ). n ∷ a ∷ c ∷ t ∷ m) (sym (snoc l n k)))
+    rw (length-take-le n l (omega arith), q, high, low) (ap (λ (m : List ℕ). n ∷ a ∷ c ∷ t ∷ m) (sym (last-apart l n k)))
 
 -- a colon, and the digits that spell a record's bytes
 record SpelledRecord (l : List ℕ) : Type 0 where
@@ -141,12 +143,8 @@ with-line-end : (l : List ℕ) → WithLineEnd l
 unfolding bare
 with-line-end l =
     decide (eqb (getD l (length l - 1) 0) 13)
-    (λ (q : eqb (getD l (length l - 1) 0) 13 ≡ true). record { rest = 13 ∷ []; is = rw q (with-return l (eqb-true _ 13 q)); ends = crlf })
+    (λ (q : eqb (getD l (length l - 1) 0) 13 ≡ true). record { rest = 13 ∷ []; is = rw q (ends-with l 13 (omega arith) (eqb-true _ 13 q)); ends = crlf })
     (λ (q : eqb (getD l (length l - 1) 0) 13 ≡ false). record { rest = []; is = rw q (sym (append-nil l)); ends = lf })
-  where
-    with-return : (l : List ℕ) → getD l (length l - 1) 0 ≡ 13 → l ≡ take (length l - 1) l ++ 13 ∷ []
-    with-return [] e = absurd (omega arith)
-    with-return (a ∷ l) e = snoc (a ∷ l) (length (a ∷ l) - 1) (omega arith) ∙ ap (λ (c : ℕ). take (length (a ∷ l) - 1) (a ∷ l) ++ c ∷ []) e
 
 -- a formed line is in the form of a record
 form-of : (l : List ℕ) (s : SpelledRecord (bare l)) → Form (s .fields) (l ++ 10 ∷ [])

@@ -14,9 +14,11 @@ use Rattle.hextext.specs.Text.{bare, after, reading}
 use Rattle.hextext.specs.declared.Record.{Record}
 use Rattle.hextext.specs.declared.Record.the-variants.{Fault}
 use Rattle.hexformat.specs.Format.{Fields, Form, Balanced, IsData, IsEnd, GoodText}
+use Rattle.hextext.specs.WithoutLaws.{without-more}
+use Rattle.hextext.specs.TextLaws.{reading-line}
 use Rattle.hexformat.specs.Faults.{NoLineFeed, WholeLine}
 use Rattle.hexformat.specs.Damage.{WholeLines, none, more, LastData}
-use Rattle.hexformat.specs.ReadingLaws.{refused-not, same-result, reading-line, reading-form, judge-balanced}
+use Rattle.hexformat.specs.ReadingLaws.{refused-not, same-result, reading-form, judge-balanced}
 use Rattle.hexformat.specs.JudgedLaws.{Judged, more as data-judged, end, fault, judged, typed-other}
 use Rattle.hexformat.specs.FormatSaysLaws.{count-small, read-data, read-end, read-last, read-stops, reads-good}
 
@@ -104,16 +106,12 @@ first (c ∷ text) =
     whole (10 ∷ []) text line (ap (λ (b : ℕ). b ∷ text) (eqb-true c 10 q)))
     (λ (q : eqb c 10 ≡ false). longer (eqb-false c 10 q) (first text))
   where
-    without : (l : List ℕ) → (c ≡ 10 → ⊥) → NoLineFeed l → NoLineFeed (c ∷ l)
-    without l n w zero e = n e
-    without l n w (suc i) e = w i e
-
     longer : (c ≡ 10 → ⊥) → First text → First (c ∷ text)
     longer n (whole l t w e) =
         let line : WholeLine (c ∷ l) =
-        record { inside = c ∷ w .inside; is = ap (λ (m : List ℕ). c ∷ m) (w .is); no-line-feed = without (w .inside) n (w .no-line-feed) } in
+        record { inside = c ∷ w .inside; is = ap (λ (m : List ℕ). c ∷ m) (w .is); no-line-feed = without-more 10 c (w .inside) n (w .no-line-feed) } in
         whole (c ∷ l) t line (ap (λ (m : List ℕ). c ∷ m) e)
-    longer n (unended w) = unended (without text n w)
+    longer n (unended w) = unended (without-more 10 c text n w)
 
 -- ---- a line of a good text
 

@@ -14,11 +14,13 @@ use Rattle.refusals.specs.Refusals.{Outcome, result, refused}
 use Rattle.hextext.specs.Record.{allDigits, recordBytes, dataOf, formed, summed, typed, lineOf, placed, judge}
 use Rattle.hextext.specs.RecordLaws.{digit-low, allDigits-at}
 use Rattle.hextext.specs.Text.{bare, after, reading}
+use Rattle.hextext.specs.WithoutLaws.{Without, without-append, without-one, digits-without, bare-without}
+use Rattle.hextext.specs.TextLaws.{reading-line}
 use Rattle.hextext.specs.declared.Record.{Record}
 use Rattle.hextext.specs.declared.Record.the-variants.{Fault}
 use Rattle.hexformat.specs.Format.{Spelled, LineEnd, lf, crlf, Fields, bytes, Form, Balanced}
 use Rattle.hexformat.specs.Faults.{NoLineFeed, WholeLine}
-use Rattle.hexformat.specs.BareLaws.{Without, without-append, without-one, bare-without, bare-return}
+use Rattle.hexformat.specs.BareLaws.{bare-return}
 use Rattle.hexformat.specs.SpelledLaws.{spelled-digits, spelled-bytes, spelled-length}
 
 -- ---- two answers
@@ -29,28 +31,7 @@ refused-not e = let z : _≡_ {A = ℕ} 0 1 = cc in absurd (omega arith)
 pub same-result : {x y : List ℕ} → result x ≡ result y → x ≡ y
 same-result e = cc
 
--- ---- gathering a line
-
--- the reader at the LF of a line
-abbrev pub ended : (room line : ℕ) (image l text : List ℕ) → Outcome
-ended room line image l text =
-    after (judge room (length image) (bare l)) line image text (reading room (line + 1) (image ++ dataOf (recordBytes (bare l))) [] text)
-
-pub reading-line : (room line : ℕ) (image passed l text : List ℕ) → NoLineFeed l
-    → reading room line image passed (l ++ 10 ∷ text) ≡ ended room line image (passed ++ l) text
-unfolding reading
-reading-line room line image passed [] text w = rw (append-nil passed)
-reading-line room line image passed (c ∷ l) text w =
-    let q : (passed ++ c ∷ []) ++ l ≡ passed ++ c ∷ l = append-assoc passed (c ∷ []) l in
-    rw (ne-eqb c 10 (w 0), ← q) (reading-line room line image (passed ++ c ∷ []) l text (λ i. w (suc i)))
-
 -- ---- a line in the form of a record
-
--- digits have no control character among them
-digits-without : (l : List ℕ) (c : ℕ) → allDigits l ≡ true → 0 < c → c < 48 → Without c l
-digits-without l c e p q i w =
-    split (length l) i (λ h. omega (arith, List·getD-eq-default l 0 h))
-    (λ h. omega (arith, allDigits-at l i e h, digit-low (getD l i 0) (omega arith)))
 
 module _ {b l : List ℕ} (s : Spelled b l) where
   pub colon-without : (c : ℕ) → 0 < c → c < 48 → Without c (58 ∷ l)

@@ -6,13 +6,14 @@ use Prim.Native.Nat.{ℕ, _+_, _-_, _*_, _≤_, _<_}
 use native.Mathlib.Omega.{arith}
 use borrow.Author.Tests.{lt-ltb, le-ltb, le-leb, lt-leb, eq-eqb, ne-eqb, leb-true, eqb-true}
 use lib.Dec.{ltb, leb, eqb}
-use lib.ListN.{length}
+use lib.ListN.{length, drop, length-drop}
+use lib.Seq.{length-take-le}
 use Rattle.laws.specs.Cases.{positive, both-left, both-right}
 use Rattle.hextext.specs.declared.TextLine.{TextLine}
 use Rattle.hextext.specs.declared.TextLine.the-variants.{Bad}
 use Rattle.hextext.specs.declared.Record.the-variants.{Data, End, Fault}
-use Rattle.hextext.specs.Record.{recordBytes, countOf, addressOf, typeOf, formed, summed, lineOf, typed, placed, judge}
-use Rattle.hextext.specs.RecordLaws.{formed-length}
+use Rattle.hextext.specs.Record.{bytesOf, recordBytes, countOf, addressOf, typeOf, dataOf, formed, summed, lineOf, typed, placed, judge}
+use Rattle.hextext.specs.RecordLaws.{formed-length, length-bytesOf}
 
 -- ---- the answer, by the tests
 
@@ -105,3 +106,10 @@ good-data-record room at l n e =
       fits = omega (arith, leb-true (at + countOf bytes) room (t .1), t .2);
       long = omega (arith, formed-length l (p .0), t .2);
     }
+
+-- it has as many data bytes as it counts
+pub data-length : {room at : ℕ} (l : List ℕ) (n : ℕ) → GoodDataRecord room at l n → length (dataOf (recordBytes l)) ≡ n
+unfolding dataOf recordBytes
+data-length l n g =
+    let bytes = length-bytesOf l 1 (n + 5) (omega (arith, g .long)) in
+    rw (g .counts) (length-take-le n (drop 4 (bytesOf (drop 1 l))) (omega (arith, length-drop 4 (bytesOf (drop 1 l)), bytes)))

@@ -14,6 +14,7 @@ use Rattle.refusals.specs.Refusals.{refused, refusal}
 use Rattle.hextext.specs.Record.{allDigits, recordBytes, countOf, dataOf, formed, judge}
 use Rattle.hextext.specs.RecordLaws.{byteAt, digit-low, allDigits-at, recordBytes-head, formed-long, formed-length, formed-digits, formed-colon, judge-unformed}
 use Rattle.hextext.specs.Text.{lineLength, bare, after, reading}
+use Rattle.hextext.specs.WithoutLaws.{Without, without-append, without-one, digits-without, bare-without}
 use Rattle.hextext.specs.TextLaws.{reading-line}
 use Rattle.hexline.specs.Line.{nextLine}
 use Rattle.hexline.specs.EndsLaws.{next-lf, next-crlf}
@@ -70,40 +71,13 @@ pub record StartsWithRecord (u : List ℕ) : Type 0 where
 
 -- ---- characters that no digit is
 
-abbrev Without : ℕ → List ℕ → Type 0
-Without c l = (i : ℕ) → getD l i 0 ≡ c → ⊥
-
-digits-without : (l : List ℕ) (c : ℕ) → allDigits l ≡ true → 0 < c → c < 48 → Without c l
-digits-without l c e p q i w =
-    split (length l) i (λ h. omega (arith, List·getD-eq-default l 0 h))
-    (λ h. omega (arith, allDigits-at l i e h, digit-low (getD l i 0) (omega arith)))
-
 line-without : (l : List ℕ) (c : ℕ) → getD l 0 0 ≡ 58 → allDigits (drop 1 l) ≡ true → 0 < c → c < 48 → Without c l
 line-without l c colon e p q zero w = omega arith
 line-without l c colon e p q (suc i) w =
     let j : 1 + i ≡ suc i = omega arith in
     digits-without (drop 1 l) c e p q i (rw (getD-drop 1 l i 0, j) w)
 
-cr-without-lf : (l : List ℕ) → Without 10 l → Without 10 (l ++ 13 ∷ [])
-cr-without-lf [] w zero e = omega arith
-cr-without-lf [] w (suc i) e = omega arith
-cr-without-lf (a ∷ l) w zero e = w 0 e
-cr-without-lf (a ∷ l) w (suc i) e = cr-without-lf l (λ j. w (suc j)) i e
-
 -- ---- reading at a line
-
-length-without-lf : (l t : List ℕ) → Without 10 l → lineLength (l ++ 10 ∷ t) ≡ length l
-unfolding lineLength
-length-without-lf [] t w = refl
-length-without-lf (c ∷ l) t w = rw (ne-eqb c 10 (w 0), length-without-lf l t (λ i. w (suc i)))
-
-reading-to-lf : (room k : ℕ) (x l t : List ℕ) → Without 10 l → reading room k x [] (l ++ 10 ∷ t)
-    ≡ after (judge room (length x) (bare l)) k x t (reading room (k + 1) (x ++ dataOf (recordBytes (bare l))) [] t)
-reading-to-lf room k x l t w =
-    let n = length-without-lf l t w in
-    let e = reading-line room k x [] (l ++ 10 ∷ t) (omega (arith, n, length-append l (10 ∷ t))) in
-    let d : drop (suc (length l)) (l ++ 10 ∷ t) ≡ t = rw (← add-one (length l)) (drop-append-add l (10 ∷ t) 1) in
-    rw (n, take-append-seam l (10 ∷ t), d) at e
 
 -- a text of which no line is formed
 reading-unformed : (room k : ℕ) (x passed u : List ℕ) → ((p : ℕ) → p < length u → getD u p 0 ≡ 10 → formed (bare (passed ++ take p u)) ≡ false)
@@ -119,10 +93,6 @@ reading-unformed room k x passed (c ∷ u) h =
     rw q (reading-unformed room k x (passed ++ c ∷ []) u (λ p hp e. rw (append-assoc passed (c ∷ []) (take p u)) (h (suc p) (suc-le-suc hp) e))))
 
 -- ---- a line before its end
-
-bare-without : (l : List ℕ) → Without 13 l → bare l ≡ l
-unfolding bare
-bare-without l w = rw (ne-eqb (getD l (length l - 1) 0) 13 (w (length l - 1)))
 
 module _ (u : List ℕ) (p : ℕ) (h : p ≤ length u) where
   bare-cr : eqb (getD (take p u) (length (take p u) - 1) 0) 13 ≡ true → bare (take p u) ≡ take (p - 1) u
@@ -191,14 +161,15 @@ pub reading-record : (room k : ℕ) (x u : List ℕ) (e next : ℕ) → Ends u e
     ≡ after (judge room (length x) (take e u)) k x (drop next u) (reading room (k + 1) (x ++ dataOf (recordBytes (take e u))) [] (drop next u))
 reading-record room k x u e next (lf h w) c a =
     ap (λ (z : List ℕ). reading room k x [] z) (cut u e h ∙ ap (λ (b : ℕ). take e u ++ b ∷ drop (e + 1) u) w)
-    ∙ reading-to-lf room k x (take e u) (drop (e + 1) u) (line-without (take e u) 10 c a (omega arith) (omega arith))
+    ∙ reading-line room k x [] (take e u) (drop (e + 1) u) (line-without (take e u) 10 c a (omega arith) (omega arith))
     ∙ rw (bare-without (take e u) (line-without (take e u) 13 c a (omega arith) (omega arith)))
 reading-record room k x u e next (crlf h r w) c a =
     let s : take (e + 1) u ≡ take e u ++ 13 ∷ [] = rw (add-one e, take-suc u e 0 (omega arith), r) in
     let n : e + 1 + 1 ≡ e + 2 = omega arith in
-    let o : Without 10 (take (e + 1) u) = rw s (cr-without-lf (take e u) (line-without (take e u) 10 c a (omega arith) (omega arith))) in
+    let one : Without 10 (13 ∷ []) = without-one 10 13 (omega arith) (λ (q : 13 ≡ 10). omega arith) in
+    let o : Without 10 (take (e + 1) u) = rw s (without-append 10 (take e u) (13 ∷ []) (line-without (take e u) 10 c a (omega arith) (omega arith)) one) in
     ap (λ (z : List ℕ). reading room k x [] z) (cut u (e + 1) h ∙ ap (λ (b : ℕ). take (e + 1) u ++ b ∷ drop (e + 1 + 1) u) w)
-    ∙ reading-to-lf room k x (take (e + 1) u) (drop (e + 1 + 1) u) o
+    ∙ reading-line room k x [] (take (e + 1) u) (drop (e + 1 + 1) u) o
     ∙ rw (bare-before-cr, n)
   where
     bare-before-cr : bare (take (e + 1) u) ≡ take e u

@@ -5,3 +5,5 @@ pub mod RecordLaws
 pub mod GatheredLaws
 pub mod LineLaws
 pub mod TextLaws
+pub mod Taken
+pub mod ByLineLaws

@@ -1,12 +1,12 @@
 -- The first line of a text: what reading comes to at it, a law for each way out.
-use mathlib.Core.Path.{_≡_, sym, _∙_}
+use mathlib.Core.Path.{_≡_, sym, ap, _∙_}
 use mathlib.Core.Bool.{true, false}
 use mathlib.Core.List.{List, [], _++_}
 use Prim.Native.Nat.{ℕ, _+_, _*_, _≤_, _<_}
 use native.Mathlib.Omega.{arith}
 use native.Mathlib.Nat.{le-of-eq}
 use lib.ListN.{length, take, drop, getD, drop-of-length-le, length-drop}
-use lib.Seq.{drop-cons, getD-take, getD-drop, length-take-le}
+use lib.Seq.{take-all, drop-cons, getD-take, getD-drop, length-take-le, paste, take-paste}
 use Rattle.laws.specs.Cases.{decide, never}
 use Rattle.refusals.specs.Refusals.{result, refused, refusal}
 use Rattle.hextext.specs.declared.Record.{Record}
@@ -15,7 +15,7 @@ use Rattle.hextext.specs.Record.{digit, recordBytes, dataOf, formed, judge}
 use Rattle.hextext.specs.RecordLaws.{byteAt, allDigits-at, formed-digits, judge-unformed}
 use Rattle.hextext.specs.Text.{after, reading}
 use Rattle.hexline.specs.Line.{nextLine}
-use Rattle.hexline.specs.TypedLaws.{good-data-record}
+use Rattle.hexline.specs.TypedLaws.{GoodDataRecord, good-data-record, data-length}
 use Rattle.hexread.specs.declared.line.Step.{Step}
 use Rattle.hexread.specs.declared.line.Step.the-variants.{More, Last, Stop}
 use Rattle.hexread.specs.DigitsLaws.{Pair, pair-byte, pair-small, pair-digits}
@@ -117,6 +117,13 @@ module _ (u d d′ : List ℕ) (room at n next : ℕ) (r : Record) (c : getD u 0
       let l : length (take at d) ≡ at = length-take-le at d (omega arith) in
       rw (← t .judged) at (rw l at e)
 
+  front : (m : ℕ) → GoodDataRecord room at (countedLine u n) m
+      → take (at + m) (paste d at (dataOf (recordBytes (countedLine u n))) m) ≡ take at d ++ dataOf (recordBytes (countedLine u n))
+  front m s =
+      let size = data-length (countedLine u n) m s in
+      take-paste d at (dataOf (recordBytes (countedLine u n))) m (omega arith) (omega (arith, size))
+      ∙ ap (λ (b : List ℕ). take at d ++ b) (take-all m (dataOf (recordBytes (countedLine u n))) (omega (arith, size)))
+
   pub step-more : (m : ℕ) → r ≡ Data m → FirstLineRead (More m next) u d d′ room at
   unfolding after
   step-more m e =
@@ -129,7 +136,7 @@ module _ (u d d′ : List ℕ) (room at n next : ℕ) (r : Record) (c : getD u 0
               inside = next-inside ends;
               further = next-further ends;
               fits = s .fits;
-              reads = λ k. rw (reads-formed (s .good) k, e, ← t .wrote m e);
+              reads = λ k. rw (reads-formed (s .good) k, e, t .wrote m e, front m s);
             });
         on-last = λ next′ q. let z : _≡_ {A = ℕ} 0 1 = cc in absurd (omega arith);
         on-stop = λ m′ q. let z : _≡_ {A = ℕ} 0 1 = cc in absurd (omega arith);

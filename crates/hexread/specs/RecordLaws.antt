@@ -7,7 +7,7 @@ use native.Mathlib.Omega.{arith}
 use borrow.Author.Tests.{eq-eqb, ne-eqb, eqb-true, eqb-false, lt-ltb, le-ltb}
 use lib.Dec.{ltb, eqb}
 use lib.ListN.{length, take, drop, getD}
-use lib.Seq.{paste-zero, take-paste}
+use lib.Seq.{take-take, paste, paste-zero}
 use Rattle.laws.specs.Cases.{split, decide}
 use Rattle.laws.specs.Sums.{total}
 use Rattle.hextext.specs.declared.Header.{Header}
@@ -16,7 +16,7 @@ use Rattle.hextext.specs.declared.TextLine.the-variants.{Good, Bad}
 use Rattle.hextext.specs.declared.Record.{Record}
 use Rattle.hextext.specs.declared.Record.the-variants.{Data, End, Fault}
 use Rattle.hextext.specs.Record.{allDigits, bytesOf, recordBytes, countOf, dataOf, formed, summed, lineOf, typed, placed, judge}
-use Rattle.hextext.specs.RecordLaws.{byteAt, allDigits-end, bytes-total-more, bytes-total-end, formed-at, recordBytes-head, length-bytesOf}
+use Rattle.hextext.specs.RecordLaws.{byteAt, allDigits-end, bytes-total-more, bytes-total-end, formed-at, judge-unformed, recordBytes-head, length-bytesOf}
 use Rattle.hexline.specs.TypedLaws.{end-empty, good-data-record}
 use Rattle.hexread.specs.DigitsLaws.{noDigit, Pair, pair-below, pair-byte, pair-digits, pair-none, none-after-pair}
 use Rattle.hexread.specs.PairsLaws.{PairsWritten}
@@ -76,7 +76,7 @@ pub record Counted (l : List ℕ) (n : ℕ) : Type 0 where
 -- the judgement r of the line l, and for a data record the image d with its data at `at`, as d′
 pub record RecordTaken (r : Record) (l d d′ : List ℕ) (room at : ℕ) : Type 0 where
   pub judged : r ≡ judge room at l
-  pub wrote : (n : ℕ) → r ≡ Data n → take (at + n) d′ ≡ take at d ++ dataOf (recordBytes l)
+  pub wrote : (n : ℕ) → r ≡ Data n → d′ ≡ paste d at (dataOf (recordBytes l)) n
   pub same : r ≡ End → d′ ≡ d
 
 taken-fault : (k : ℕ) (l d d′ : List ℕ) (room at : ℕ) → judge room at l ≡ Fault k → RecordTaken (Fault k) l d d′ room at
@@ -86,6 +86,9 @@ taken-fault k l d d′ room at j =
       wrote = λ m q. let z : _≡_ {A = ℕ} 0 1 = cc in absurd (omega arith);
       same = λ q. let z : _≡_ {A = ℕ} 0 1 = cc in absurd (omega arith);
     }
+
+pub taken-unformed : (l d d′ : List ℕ) (room at : ℕ) → formed l ≡ false → RecordTaken (Fault 1) l d d′ room at
+taken-unformed l d d′ room at e = taken-fault 1 l d d′ room at (judge-unformed room at l e)
 
 data-from-nine : (l : List ℕ) (n : ℕ) → length l ≡ 11 + n * 2 → countOf (recordBytes l) ≡ n → dataOf (recordBytes l) ≡ take n (bytesOf (drop 9 l))
 unfolding dataOf
@@ -110,8 +113,7 @@ module _ (l : List ℕ) (n : ℕ) (v : Counted l n) where
 
   module _ (d d′ : List ℕ) (room at : ℕ) where
     no-digits : allDigits (drop 1 l) ≡ false → RecordTaken (Fault 1) l d d′ room at
-    unfolding judge placed lineOf
-    no-digits e = taken-fault 1 l d d′ room at (rw (formed-by-digits false e))
+    no-digits e = taken-unformed l d d′ room at (formed-by-digits false e)
 
     module _ (high low kind : ℕ) (ph : Pair l 3 high) (pl : Pair l 5 low) (pk : Pair l 7 kind) (s : ℕ) (w : PairsWritten l 9 n d d′ at s) where
       taken-bad-data : 256 ≤ s → RecordTaken (Fault 1) l d d′ room at
@@ -193,8 +195,7 @@ module _ (l : List ℕ) (n : ℕ) (v : Counted l n) where
                 wrote = λ m t.
                     let u = good-data-record room at l m (judge-typed h ∙ sym e ∙ t) in
                     let same : n ≡ m = omega (arith, v .long, u .long) in
-                    rw (w .wrote hs, same, data-from-nine l m (u .long) (u .counts))
-                    (take-paste d at (bytesOf (drop 9 l)) m (omega (arith, u .fits)) (length-bytesOf l 9 m (omega (arith, u .long))));
+                    rw (w .wrote hs, same, data-from-nine l m (u .long) (u .counts), take-take m m (bytesOf (drop 9 l)) (omega arith));
                 same = λ t.
                     let none : n ≡ 0 = end-empty room at n (high * 256 + low) kind (sym e ∙ t) in
                     rw (w .wrote hs, none) (sym (paste-zero d at (bytesOf (drop 9 l))));
@@ -225,10 +226,13 @@ module _ (room at : ℕ) (l : List ℕ) (line : TextLine) (e : line ≡ lineOf l
   unfolding judge placed
   judged-bad number f = rw (← e, f)
 
-pub taken-no-room : (l d : List ℕ) (n room at : ℕ) (r : Record) → Counted l n → room - at < n → r ≡ judge room at l → RecordTaken r l d d room at
-taken-no-room l d n room at r v h e =
-    record {
-      judged = e;
-      wrote = λ m t. let u = good-data-record room at l m (sym e ∙ t) in absurd (omega (arith, v .long, u .long, u .fits));
-      same = λ t. refl;
-    }
+module _ (l d : List ℕ) (room at : ℕ) (r : Record) (e : r ≡ judge room at l) where
+  taken-unwritten : ((m : ℕ) → at + m ≤ room → length l ≡ 11 + m * 2 → ⊥) → RecordTaken r l d d room at
+  taken-unwritten none =
+      record { judged = e; wrote = λ m t. let u = good-data-record room at l m (sym e ∙ t) in absurd (none m (u .fits) (u .long)); same = λ t. refl }
+
+  pub taken-no-room : (n : ℕ) → Counted l n → room - at < n → RecordTaken r l d d room at
+  taken-no-room n v h = taken-unwritten (λ m f g. omega (arith, v .long))
+
+  pub taken-past : room < at → RecordTaken r l d d room at
+  taken-past h = taken-unwritten (λ m f g. omega arith)

@@ -120,7 +120,7 @@ fn judge_parts(
 }
 
 // The record of a line whose data have no room, and so are not written.
-fn judge_unwritten(line: &[u8], at: usize, room: usize) -> Record
+pub fn judge_unwritten(line: &[u8], at: usize, room: usize) -> Record
     ensures { λ r. ⌜ r ≡ judge room at (now (line .entry)) ⌝ }
 {
     let judged = judge_line(line);

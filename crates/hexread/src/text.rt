@@ -15,7 +15,7 @@ use refusals::Filled;
 use refusals::Refusal;
 
 // The room that a buffer of `size` bytes gives an image.
-fn room_in(size: usize) -> usize
+pub fn room_in(size: usize) -> usize
     ensures { λ r. ⌜ r ≡ min largestImage size ⌝ }
 {
     if size < LARGEST_IMAGE {

@@ -1,18 +1,15 @@
 -- The first line of a text: its length, and what reading comes to there.
 use mathlib.Core.Path.{_≡_}
-use mathlib.Core.Bool.{true, false}
 use mathlib.Core.List.{List, [], _∷_, _++_, append-nil, append-assoc}
 use Prim.Native.Nat.{ℕ, suc, _+_, _≤_, _<_}
-use native.Mathlib.Omega.{arith}
-use native.Mathlib.Nat.{le-of-suc-le-suc}
 use native.Mathlib.Numerals.{add-one}
 use borrow.Author.Tests.{eq-eqb, ne-eqb}
-use lib.Dec.{eqb}
-use lib.ListN.{length, take, drop, getD, drop-of-length-le}
+use lib.ListN.{length, drop, getD, drop-of-length-le}
 use lib.Seq.{drop-cons}
-use Rattle.laws.specs.Cases.{decide}
+use Rattle.refusals.specs.Refusals.{Outcome}
 use Rattle.hextext.specs.Record.{recordBytes, dataOf, judge}
 use Rattle.hextext.specs.Text.{lineLength, bare, after, reading}
+use Rattle.hextext.specs.WithoutLaws.{Without}
 
 -- ---- from a place on
 
@@ -31,15 +28,16 @@ module _ (t : List ℕ) (i : ℕ) where
 
 -- ---- reading
 
--- at a line with its LF, of which some was passed
-pub reading-line : (room k : ℕ) (x passed u : List ℕ) → lineLength u < length u → reading room k x passed u
-    ≡ after (judge room (length x) (bare (passed ++ take (lineLength u) u))) k x (drop (suc (lineLength u)) u)
-    (reading room (k + 1) (x ++ dataOf (recordBytes (bare (passed ++ take (lineLength u) u)))) [] (drop (suc (lineLength u)) u))
-unfolding reading lineLength
-reading-line room k x passed [] h = absurd (omega arith)
-reading-line room k x passed (c ∷ u) h =
-    decide (eqb c 10) (λ (q : eqb c 10 ≡ true). rw (q, append-nil passed))
-    (λ (q : eqb c 10 ≡ false).
-    let l : lineLength u < length u = le-of-suc-le-suc (rw q at h) in
-    let a : (passed ++ c ∷ []) ++ take (lineLength u) u ≡ passed ++ c ∷ take (lineLength u) u = append-assoc passed (c ∷ []) (take (lineLength u) u) in
-    rw (q, ← a) (reading-line room k x (passed ++ c ∷ []) u l))
+-- at the LF of a line
+abbrev pub ended : (room line : ℕ) (image l text : List ℕ) → Outcome
+ended room line image l text =
+    after (judge room (length image) (bare l)) line image text (reading room (line + 1) (image ++ dataOf (recordBytes (bare l))) [] text)
+
+-- a line up to its LF, of which some was passed
+pub reading-line : (room line : ℕ) (image passed l text : List ℕ) → Without 10 l
+    → reading room line image passed (l ++ 10 ∷ text) ≡ ended room line image (passed ++ l) text
+unfolding reading
+reading-line room line image passed [] text w = rw (append-nil passed)
+reading-line room line image passed (c ∷ l) text w =
+    let q : (passed ++ c ∷ []) ++ l ≡ passed ++ c ∷ l = append-assoc passed (c ∷ []) l in
+    rw (ne-eqb c 10 (w 0), ← q) (reading-line room line image (passed ++ c ∷ []) l text (λ i. w (suc i)))
