@@ -1,11 +1,13 @@
 pub mod Levels
 pub mod Verdict
 pub mod Reading
+pub mod Identified
 pub mod Load
 pub mod LevelsLaws
 pub mod GoodLayoutLaws
 pub mod BodiesLaws
 pub mod VerdictLaws
 pub mod ReadingLaws
+pub mod IdentifiedLaws
 pub mod LoadLaws
 pub mod Examples

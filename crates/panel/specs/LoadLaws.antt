@@ -14,20 +14,7 @@ use Rattle.refusals.specs.Refusals.{result, checked, Fills, Settled}
 use Rattle.refusals.specs.RefusalsLaws.{refused-of, result-of}
 use Rattle.hextext.specs.Text.{readText}
 use Rattle.panel.specs.Verdict.{verdictOf}
-use Rattle.panel.specs.Load.{loadText}
-
--- what judging the image at a buffer's start answers, and what the buffer then holds
-abbrev answered : Verdict → (size : ℕ) → Filled
-answered Accepted size = Length size
-answered (NotAccepted r) size = Refused r
-
-abbrev kept : Verdict → List ℕ → List ℕ
-kept Accepted buffer = buffer
-kept (NotAccepted r) buffer = clearedFrom 0 buffer
-
-pub record Keeps (level size : ℕ) (before : List ℕ) (answer : Filled) (after : List ℕ) : Type 0 where
-  pub answers : answer ≡ answered (verdictOf level (take size before)) size
-  pub holds : after ≡ kept (verdictOf level (take size before)) before
+use Rattle.panel.specs.Load.{answered, kept, Keeps, loadText}
 
 module _ (level size : ℕ) (before part : List ℕ) (v : Verdict) (p : part ≡ take size (drop 0 before)) (j : v ≡ verdictOf level part) where
   judged-part : verdictOf level (take size before) ≡ v

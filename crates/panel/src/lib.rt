@@ -16,7 +16,14 @@ mod readings;
 
 pub use readings::reading;
 
+// The gauge of an image.
+mod identities;
+
+pub use identities::Identified;
+pub use identities::identity;
+
 // The load of a text.
 mod loads;
 
+pub use loads::keep_accepted;
 pub use loads::load;

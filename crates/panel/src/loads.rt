@@ -4,11 +4,10 @@ use refusals::Filled;
 use refusals::Verdict;
 ghost use lib.ListN.{length};
 ghost use Rattle.refusals.specs.Refusals.{Fills};
-ghost use Rattle.panel.specs.Load.{loadText};
-ghost use Rattle.panel.specs.LoadLaws.{Keeps};
+ghost use Rattle.panel.specs.Load.{Keeps, loadText};
 
-// The image at the buffer's start judged, and cleared where it is refused.
-fn keep_accepted(level: u32, image: &mut [u8], size: usize) -> Filled
+// The image at the buffer's start, `size` bytes, judged: the buffer stays as it is, or is cleared where the image is refused.
+pub fn keep_accepted(level: u32, image: &mut [u8], size: usize) -> Filled
     ensures { λ r. ⌜ Keeps level size (now (image .entry)) r (now (image .exit)) ⌝ }
 {
     let judged = verdict(numbers::slices::part(image, 0, size), level);

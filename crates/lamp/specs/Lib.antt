@@ -1,0 +1,4 @@
+pub mod Panel
+pub mod Events
+pub mod Questions
+pub mod LoadsLaws
