@@ -4,7 +4,7 @@ use mathlib.Core.Bool.{Bool, true, false, cond, _&&_}
 use mathlib.Core.List.{List}
 use Prim.Native.Nat.{ℕ, _+_, _-_, _*_, _≤_, _<_}
 use native.Mathlib.Omega.{arith}
-use borrow.Author.Tests.{lt-ltb, le-ltb, le-leb, lt-leb, eq-eqb, ne-eqb, leb-true, eqb-true}
+use borrow.Author.Tests.{lt-ltb, le-ltb, le-leb, lt-leb, eq-eqb, ne-eqb, ltb-true, leb-true, eqb-true}
 use lib.Dec.{ltb, leb, eqb}
 use lib.ListN.{length, drop, length-drop}
 use lib.Seq.{length-take-le}
@@ -84,6 +84,7 @@ end-empty room at count address kind e =
 pub record GoodDataRecord (room at : ℕ) (l : List ℕ) (n : ℕ) : Type 0 where
   pub good : formed l ≡ true
   pub counts : countOf (recordBytes l) ≡ n
+  pub some : 1 ≤ n
   pub fits : at + n ≤ room
   pub long : length l ≡ 11 + n * 2
 
@@ -103,6 +104,7 @@ good-data-record room at l n e =
     record {
       good = p .0;
       counts = t .2;
+      some = omega (arith, ltb-true 0 (countOf bytes) (both-left (ltb 0 (countOf bytes)) (eqb (addressOf bytes) at) (t .0)), t .2);
       fits = omega (arith, leb-true (at + countOf bytes) room (t .1), t .2);
       long = omega (arith, formed-length l (p .0), t .2);
     }

@@ -1,10 +1,7 @@
 use borrow.Author.Needs.{needs}
+use Rattle.lamp.specs.LoadsLaws.{end-too-soon, end-whole, end-none}
 use Rattle.lamp.proofs.loads.end.Statement.{statement}
 use Rattle.lamp.proofs.loads.end.Tie as tie
-use Rattle.lamp.proofs.loads.end.Reads as reads
-use Rattle.lamp.proofs.loads.end.Lts as lts
-use Rattle.lamp.proofs.loads.judge.Reads as judge-reads
-use Rattle.lamp.proofs.loads.stop.Reads as stop-reads
 
 stop-requires : tie.Need-stop-requires
 stop-requires c κs = search needs
@@ -13,7 +10,7 @@ same-length : tie.Need-same-length
 same-length c = search needs
 
 returns : tie.Need-returns
-returns c = ?
+returns c = search (needs, end-too-soon)
 
 judge-requires : tie.Need-judge-requires
 judge-requires c κs = search needs
@@ -22,10 +19,10 @@ same-length-2 : tie.Need-same-length-2
 same-length-2 c = search needs
 
 returns-2 : tie.Need-returns-2
-returns-2 c = ?
+returns-2 c = search (needs, end-whole)
 
 returns-3 : tie.Need-returns-3
-returns-3 c = ?
+returns-3 c = search (needs, end-none)
 
 pub end-spec : {M : Type 1} → statement M
 end-spec =

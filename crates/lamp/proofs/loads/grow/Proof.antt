@@ -1,9 +1,7 @@
 use borrow.Author.Needs.{needs}
+use Rattle.lamp.specs.LoadsLaws.{grown-first, grown-more}
 use Rattle.lamp.proofs.loads.grow.Statement.{statement}
 use Rattle.lamp.proofs.loads.grow.Tie as tie
-use Rattle.lamp.proofs.loads.grow.Reads as reads
-use Rattle.lamp.proofs.loads.grow.Lts as lts
-use Rattle.lamp.proofs.loads.next_line.Reads as next-line-reads
 
 next-line-requires : tie.Need-next-line-requires
 next-line-requires c κs = search needs
@@ -24,10 +22,10 @@ same-length : tie.Need-same-length
 same-length c = search needs
 
 returns : tie.Need-returns
-returns c = ?
+returns c = search (needs, grown-first)
 
 returns-2 : tie.Need-returns-2
-returns-2 c = ?
+returns-2 c = search (needs, grown-more)
 
 pub grow-spec : {M : Type 1} → statement M
 grow-spec =

@@ -1,12 +1,7 @@
 use borrow.Author.Needs.{needs}
+use Rattle.lamp.specs.LoadsLaws.{whole-small, whole-judged}
 use Rattle.lamp.proofs.loads.judge.Statement.{statement}
 use Rattle.lamp.proofs.loads.judge.Tie as tie
-use Rattle.lamp.proofs.loads.judge.Reads as reads
-use Rattle.lamp.proofs.loads.judge.Lts as lts
-use Rattle.lamp.proofs.loads.after_load.Reads as after-load-reads
-use Rattle.lamp.proofs.loads.put_first.Reads as put-first-reads
-use Rattle.lamp.proofs.loads.smaller.Reads as smaller-reads
-use Rattle.panel.proofs.keep_accepted.Reads as keep-accepted-reads
 
 put-first-requires : tie.Need-put-first-requires
 put-first-requires c κs = search needs
@@ -24,13 +19,13 @@ keep-accepted-requires : tie.Need-keep-accepted-requires
 keep-accepted-requires c κs = search needs
 
 after-load-requires : tie.Need-after-load-requires
-after-load-requires c κs = ?
+after-load-requires c κs = search (needs, whole-small)
 
 same-length : tie.Need-same-length
 same-length c = search needs
 
 returns : tie.Need-returns
-returns c = ?
+returns c = search (needs, whole-judged)
 
 pub judge-spec : {M : Type 1} → statement M
 judge-spec =

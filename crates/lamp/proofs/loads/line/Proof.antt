@@ -1,10 +1,7 @@
 use borrow.Author.Needs.{needs}
+use Rattle.lamp.specs.LoadsLaws.{line-under-way, line-too-many, line-none}
 use Rattle.lamp.proofs.loads.line.Statement.{statement}
 use Rattle.lamp.proofs.loads.line.Tie as tie
-use Rattle.lamp.proofs.loads.line.Reads as reads
-use Rattle.lamp.proofs.loads.line.Lts as lts
-use Rattle.lamp.proofs.loads.stop.Reads as stop-reads
-use Rattle.lamp.proofs.loads.take_line.Reads as take-line-reads
 
 take-line-requires : tie.Need-take-line-requires
 take-line-requires c κs = search needs
@@ -13,7 +10,7 @@ same-length : tie.Need-same-length
 same-length c = search needs
 
 returns : tie.Need-returns
-returns c = ?
+returns c = search (needs, line-under-way)
 
 stop-requires : tie.Need-stop-requires
 stop-requires c κs = search needs
@@ -22,10 +19,10 @@ same-length-2 : tie.Need-same-length-2
 same-length-2 c = search needs
 
 returns-2 : tie.Need-returns-2
-returns-2 c = ?
+returns-2 c = search (needs, line-too-many)
 
 returns-3 : tie.Need-returns-3
-returns-3 c = ?
+returns-3 c = search (needs, line-none)
 
 pub line-spec : {M : Type 1} → statement M
 line-spec =

@@ -1,13 +1,7 @@
 use borrow.Author.Needs.{needs}
+use Rattle.lamp.specs.LoadsLaws.{settled-small, powered}
 use Rattle.lamp.proofs.loads.power_on.Statement.{statement}
 use Rattle.lamp.proofs.loads.power_on.Tie as tie
-use Rattle.lamp.proofs.loads.power_on.Reads as reads
-use Rattle.lamp.proofs.loads.power_on.Lts as lts
-use Rattle.lamp.proofs.loads.after_load.Reads as after-load-reads
-use Rattle.lamp.proofs.loads.level_kept.Reads as level-kept-reads
-use Rattle.lamp.proofs.loads.smaller.Reads as smaller-reads
-use Rattle.panel.proofs.keep_accepted.Reads as keep-accepted-reads
-use Rattle.refusals.proofs.settled.Reads as settled-reads
 
 smaller-requires : tie.Need-smaller-requires
 smaller-requires c κs = search needs
@@ -22,13 +16,13 @@ level-kept-requires : tie.Need-level-kept-requires
 level-kept-requires c κs = search needs
 
 after-load-requires : tie.Need-after-load-requires
-after-load-requires c κs = ?
+after-load-requires c κs = search (needs, settled-small)
 
 same-length : tie.Need-same-length
 same-length c = search needs
 
 returns : tie.Need-returns
-returns c = ?
+returns c = search (needs, powered)
 
 pub power-on-spec : {M : Type 1} → statement M
 power-on-spec =

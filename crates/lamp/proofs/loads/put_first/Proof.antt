@@ -1,11 +1,10 @@
 use borrow.Author.Needs.{needs}
+use Rattle.lamp.specs.LoadsLaws.{first-nowhere}
 use Rattle.lamp.proofs.loads.put_first.Statement.{statement}
 use Rattle.lamp.proofs.loads.put_first.Tie as tie
-use Rattle.lamp.proofs.loads.put_first.Reads as reads
-use Rattle.lamp.proofs.loads.put_first.Lts as lts
 
 returns : tie.Need-returns
-returns c = ?
+returns c = search (needs, first-nowhere)
 
 slice-write-image : tie.Need-slice-write-image
 slice-write-image c = search needs

@@ -1,12 +1,7 @@
 use borrow.Author.Needs.{needs}
+use Rattle.lamp.specs.LoadsLaws.{taken-room, taken-data, taken-end, taken-fault}
 use Rattle.lamp.proofs.loads.take_line.Statement.{statement}
 use Rattle.lamp.proofs.loads.take_line.Tie as tie
-use Rattle.lamp.proofs.loads.take_line.Reads as reads
-use Rattle.lamp.proofs.loads.take_line.Lts as lts
-use Rattle.hexread.proofs.take_line.Reads as take-line-reads
-use Rattle.lamp.proofs.loads.grow.Reads as grow-reads
-use Rattle.lamp.proofs.loads.next_line.Reads as next-line-reads
-use Rattle.lamp.proofs.loads.stopped.Reads as stopped-reads
 
 cast-at : tie.Need-cast-at
 cast-at c = search needs
@@ -18,7 +13,7 @@ enum-known-taken : tie.Need-enum-known-taken
 enum-known-taken c = search needs
 
 grow-requires : tie.Need-grow-requires
-grow-requires c κs = ?
+grow-requires c κs = search (needs, taken-room)
 
 enum-told : tie.Need-enum-told
 enum-told c = search needs
@@ -36,19 +31,19 @@ same-length : tie.Need-same-length
 same-length c = search needs
 
 returns : tie.Need-returns
-returns c = ?
+returns c = search (needs, taken-data)
 
 same-length-2 : tie.Need-same-length-2
 same-length-2 c = search needs
 
 returns-2 : tie.Need-returns-2
-returns-2 c = ?
+returns-2 c = search (needs, taken-end)
 
 same-length-3 : tie.Need-same-length-3
 same-length-3 c = search needs
 
 returns-3 : tie.Need-returns-3
-returns-3 c = ?
+returns-3 c = search (needs, taken-fault)
 
 pub take-line-spec : {M : Type 1} → statement M
 take-line-spec =

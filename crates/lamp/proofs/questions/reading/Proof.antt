@@ -1,11 +1,7 @@
 use borrow.Author.Needs.{needs}
+use Rattle.lamp.specs.QuestionsLaws.{reading-shown}
 use Rattle.lamp.proofs.questions.reading.Statement.{statement}
 use Rattle.lamp.proofs.questions.reading.Tie as tie
-use Rattle.lamp.proofs.questions.reading.Reads as reads
-use Rattle.lamp.proofs.questions.reading.Lts as lts
-use Rattle.lamp.proofs.questions.size_held.Reads as size-held-reads
-use Rattle.numbers.proofs.slices.part.Reads as part-reads
-use Rattle.panel.proofs.reading.Reads as reading-reads
 
 size-held-requires : tie.Need-size-held-requires
 size-held-requires c κs = search needs
@@ -20,7 +16,7 @@ reading-requires : tie.Need-reading-requires
 reading-requires c κs = search needs
 
 returns : tie.Need-returns
-returns c = ?
+returns c = search (needs, reading-shown)
 
 pub reading-spec : {M : Type 1} → statement M
 reading-spec =
