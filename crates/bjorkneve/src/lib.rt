@@ -15,7 +15,14 @@ ghost use Rattle.reading.specs.ForC.{answerForC};
 ghost use Rattle.panel.specs.Verdict.{verdictOf};
 ghost use Rattle.panel.specs.Load.{loadText};
 ghost use Rattle.panel.specs.Reading.{readingOf};
+ghost use Rattle.lamp.specs.Panel.{standing};
+ghost use Rattle.lamp.specs.Events.{poweredOn, textLoaded, textBegun, lineTaken, textEnded};
+ghost use Rattle.lamp.specs.Questions.{readingShown, gaugeTold};
+ghost use Rattle.lamp.specs.ForC.{statusForC, gaugeForC};
 use finder::PlaceForC;
+use lamp::GaugeForC;
+use lamp::Panel;
+use lamp::StatusForC;
 use reading::AnswerForC;
 use reading::Counts;
 use refusals::FilledForC;
@@ -94,4 +101,71 @@ pub extern "C" fn bjorkneve_reading(image: &[u8], level: u32, counts: Counts) ->
     ensures { λ r. ⌜ r ≡ answerForC (readingOf level (now (image .entry)) counts) ⌝ }
 {
     reading::answer_for_c(panel::reading(image, level, counts))
+}
+
+// A panel of this level at power-on. Of the bytes in the image the first size are what was kept of an accepted image, and they are judged
+// as a loaded image is; size is 0 where nothing was kept. Where they are refused, the image is all zeros and the panel has none.
+#[no_mangle]
+pub extern "C" fn bjorkneve_panel_power_on(level: u32, image: &mut [u8], size: usize) -> Panel
+    ensures { λ r. ⌜ standing r (now (image .exit)) ≡ poweredOn level size (now (image .entry)) ⌝ }
+{
+    lamp::power_on(level, image, size)
+}
+
+// Loads a whole text, as bjorkneve_load does.
+#[no_mangle]
+pub extern "C" fn bjorkneve_panel_load(panel: Panel, text: &[u8], image: &mut [u8]) -> Panel
+    ensures { λ r. ⌜ standing r (now (image .exit)) ≡ textLoaded (now (text .entry)) (standing panel (now (image .entry))) ⌝ }
+{
+    lamp::load(panel, text, image)
+}
+
+// Begins a load by lines: the image is all zeros from here on, and the lamp is not green before bjorkneve_panel_end accepts. Until then the
+// image's first byte is kept in the panel, so that no call takes what stands in the image for an image.
+#[no_mangle]
+pub extern "C" fn bjorkneve_panel_begin(panel: Panel, image: &mut [u8]) -> Panel
+    ensures { λ r. ⌜ standing r (now (image .exit)) ≡ textBegun (standing panel (now (image .entry))) ⌝ }
+{
+    lamp::begin(panel, image)
+}
+
+// Takes one line of the text with its line end, LF or CR LF; the last line may lack it, and is then refused. After a fault the image is all
+// zeros, and further lines change nothing. A line that can be good has at most BJORKNEVE_LONGEST_LINE bytes.
+#[no_mangle]
+pub extern "C" fn bjorkneve_panel_line(panel: Panel, line: &[u8], image: &mut [u8]) -> Panel
+    ensures { λ r. ⌜ standing r (now (image .exit)) ≡ lineTaken (now (line .entry)) (standing panel (now (image .entry))) ⌝ }
+{
+    lamp::line(panel, line, image)
+}
+
+// Ends a load by lines: the image is judged, and the panel answers what bjorkneve_load answers of the whole text.
+#[no_mangle]
+pub extern "C" fn bjorkneve_panel_end(panel: Panel, image: &mut [u8]) -> Panel
+    ensures { λ r. ⌜ standing r (now (image .exit)) ≡ textEnded (standing panel (now (image .entry))) ⌝ }
+{
+    lamp::end(panel, image)
+}
+
+// How the panel's last load stands: the lamp, and what the load answered.
+#[no_mangle]
+pub extern "C" fn bjorkneve_panel_status(panel: Panel) -> StatusForC
+    ensures { λ r. ⌜ r ≡ statusForC panel ⌝ }
+{
+    lamp::status_for_c(panel)
+}
+
+// Takes a reading by the panel's image, which is judged anew at each call. Refused as by bjorkneve_reading; 5 where the lamp is not green.
+#[no_mangle]
+pub extern "C" fn bjorkneve_panel_reading(panel: Panel, image: &[u8], counts: Counts) -> AnswerForC
+    ensures { λ r. ⌜ r ≡ answerForC (readingShown (standing panel (now (image .entry))) counts) ⌝ }
+{
+    reading::answer_for_c(lamp::reading(panel, image, counts))
+}
+
+// The gauge of the panel's image, which is judged anew. Refused as by bjorkneve_verdict; 5 where the lamp is not green.
+#[no_mangle]
+pub extern "C" fn bjorkneve_panel_gauge(panel: Panel, image: &[u8]) -> GaugeForC
+    ensures { λ r. ⌜ r ≡ gaugeForC (gaugeTold (standing panel (now (image .entry)))) ⌝ }
+{
+    lamp::gauge_for_c(lamp::gauge(panel, image))
 }

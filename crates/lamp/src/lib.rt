@@ -25,6 +25,16 @@ pub use loads::power_on;
 // What a panel is asked.
 mod questions;
 
+pub use questions::LoadState;
 pub use questions::gauge;
 pub use questions::is_lit;
+pub use questions::load_state;
 pub use questions::reading;
+
+// Answers as C gets them.
+mod for_c;
+
+pub use for_c::GaugeForC;
+pub use for_c::StatusForC;
+pub use for_c::gauge_for_c;
+pub use for_c::status_for_c;

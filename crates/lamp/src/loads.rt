@@ -11,10 +11,10 @@ ghost use Rattle.lamp.specs.Events.{poweredOn, textLoaded, textBegun, ne
 ghost use Rattle.lamp.specs.LoadsLaws.{SmallImage, answerPanel, HasRoom, grown};
 
 // A text is under way.
-const AT_LINE: u8 = 1;
+pub const AT_LINE: u8 = 1;
 
 // Its end record is read.
-const AT_END_RECORD: u8 = 2;
+pub const AT_END_RECORD: u8 = 2;
 
 // Its image is accepted.
 pub const AT_IMAGE: u8 = 3;

@@ -1,0 +1,16 @@
+use borrow.Author.Needs.{needs}
+use Rattle.reading.specs.ForCLaws.{told-answer}
+use Rattle.bjorkneve.proofs.bjorkneve_panel_reading.Statement.{statement}
+use Rattle.bjorkneve.proofs.bjorkneve_panel_reading.Tie as tie
+
+reading-requires : tie.Need-reading-requires
+reading-requires c κs = search needs
+
+answer-for-c-requires : tie.Need-answer-for-c-requires
+answer-for-c-requires c κs = search needs
+
+returns : tie.Need-returns
+returns c = search (needs, told-answer)
+
+pub bjorkneve-panel-reading-spec : {M : Type 1} → statement M
+bjorkneve-panel-reading-spec = tie.close (tie.spec reading-requires answer-for-c-requires returns)
