@@ -4,9 +4,10 @@
 #include <stdio.h>
 #include <string.h>
 
-static int failed;
+static int failed, asked;
 
 static void expect(int holds, const char *what) {
+    asked++;
     if (!holds) {
         printf("calls: wrong: %s\n", what);
         failed = 1;
@@ -149,6 +150,6 @@ int main(int count, char **words) {
     const size_t length = fread(text, 1, sizeof text, file);
     fclose(file);
     readings(example, bjorkneve_load(text, length, BJORKNEVE_LEVEL_2, example, sizeof example).length);
-    if (!failed) puts("calls: every call answers as it should");
+    if (!failed) printf("calls: %d answers are as they should be\n", asked);
     return failed;
 }

@@ -70,17 +70,14 @@ fn run(
         return Ok(Status::NoAnswer);
     };
     let name = arguments::shown(name);
-    if name == "--help" {
-        return said(out, help::PROGRAM);
-    }
     if arguments::asks(given, "--version") {
         version::print(out)?;
         return Ok(Status::Answered);
     }
-    if name == "help" {
-        return match rest {
-            [] => said(out, help::PROGRAM),
-            [program, ..] => said(out, help_of(&arguments::shown(program))?),
+    if name == "help" || name == "--help" {
+        return match rest.iter().find(|word| *word != "--help") {
+            None => said(out, help::PROGRAM),
+            Some(program) => said(out, help_of(&arguments::shown(program))?),
         };
     }
     let help = help_of(&name)?;

@@ -35,7 +35,7 @@ fn fails(given: &[&str], words: &str) {
 
 #[test]
 fn help_is_there_for_each_program() {
-    for given in [&["help"][..], &["--help"], &["--help", "words"]] {
+    for given in [&["help"][..], &["--help"], &["help", "--help"]] {
         prints(given, help::PROGRAM);
     }
     for (name, page) in [
@@ -44,6 +44,7 @@ fn help_is_there_for_each_program() {
         ("card", help::CARD),
     ] {
         prints(&["help", name], page);
+        prints(&["--help", name], page);
         prints(&[name, "--help"], page);
         prints(&[name, "a", "--none", "--help", "b"], page);
         let usage = page.lines().next().expect("a line");
