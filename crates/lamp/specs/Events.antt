@@ -1,6 +1,6 @@
 -- What each event makes of a panel and its buffer.
 use mathlib.Core.Bool.{cond}
-use mathlib.Core.List.{List}
+use mathlib.Core.List.{List, [], _∷_}
 use Prim.Native.Nat.{ℕ, _+_, _%_, _^_, min}
 use lib.Dec.{eqb}
 use lib.ListN.{length, take, getD, set, replicate}
@@ -19,7 +19,7 @@ use Rattle.lamp.specs.Panel.{atLine, atEndRecord, linesOf, sizeOf, under
 
 -- power-on, with an image of `size` bytes in the buffer, which is judged as a loaded one is; of 0 bytes, where none was kept
 unfoldable pub poweredOn : (level size : ℕ) (buffer : List ℕ) → Standing
-poweredOn level size buffer = ended (levelKept level) (length buffer) (judged level (result (take size buffer)))
+poweredOn level size buffer = ended (levelKept level) (length buffer) (judged (levelKept level) (result (take size buffer)))
 
 -- a whole text
 unfoldable pub textLoaded : (text : List ℕ) → Standing → Standing
@@ -65,6 +65,10 @@ unfoldable pub lineTaken : (line : List ℕ) → Standing → Standing
 lineTaken line s =
     cond (eqb (s .panel .stage) atLine) (nextTaken line s)
     (cond (eqb (s .panel .stage) atEndRecord) (stoppedBy 1 s) s)
+
+unfoldable pub linesTaken : List (List ℕ) → Standing → Standing
+linesTaken [] s = s
+linesTaken (line ∷ lines) s = linesTaken lines (lineTaken line s)
 
 -- the first byte back in its place, and the image judged: the buffer stays so, or is cleared where the image is refused
 abbrev pub imageJudged : Verdict → (level : ℕ) (image buffer : List ℕ) → Standing

@@ -4,5 +4,6 @@ pub mod Questions
 pub mod InNumbers
 pub mod ForC
 pub mod LoadsLaws
+pub mod ByLinesLaws
 pub mod QuestionsLaws
 pub mod ForCLaws

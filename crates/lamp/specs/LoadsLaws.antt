@@ -125,18 +125,17 @@ module _ (level size : ℕ) (before after : List ℕ) (answer : Filled) (n : ℕ
     pub settled-small : SmallImage settled
     settled-small = rw (s .same) keeps-small
 
-    pub powered : (to : ℕ) (p : Panel) → to ≡ levelKept level → p ≡ answerPanel to settled → standing p after′ ≡ poweredOn level size before
+    pub powered : (from : ℕ) (p : Panel) → level ≡ levelKept from → p ≡ answerPanel level settled → standing p after′ ≡ poweredOn from size before
     unfolding poweredOn
-    powered to p t e = by (verdictOf level held) refl
+    powered from p t e = rw (← t) (by (verdictOf level held) refl)
       where
-        by : (v : Verdict) → verdictOf level held ≡ v
-            → standing p after′ ≡ ended (levelKept level) (length before) (checked (verdictOf level held) held)
+        by : (v : Verdict) → verdictOf level held ≡ v → standing p after′ ≡ ended level (length before) (checked (verdictOf level held) held)
         by Accepted v =
-            rw (e, s .same, s .cleared, answer-held, v, k .holds, judged-held, v, t, held-size)
-            (ap (λ (l : List ℕ). standing (answerPanel (levelKept level) (Length n)) (l ++ replicate (length before - n) 0)) judged-held)
+            rw (e, s .same, s .cleared, answer-held, v, k .holds, judged-held, v, held-size)
+            (ap (λ (l : List ℕ). standing (answerPanel level (Length n)) (l ++ replicate (length before - n) 0)) judged-held)
         by (NotAccepted r) v =
-            rw (e, s .same, s .cleared, answer-held, v, k .holds, judged-held, v, t)
-            (ap (standing (answerPanel (levelKept level) (Refused r))) (cleared-twice before))
+            rw (e, s .same, s .cleared, answer-held, v, k .holds, judged-held, v)
+            (ap (standing (answerPanel level (Refused r))) (cleared-twice before))
 
 -- ---- a whole text
 
@@ -199,12 +198,12 @@ module _ (panel : Panel) (count : ℕ) (buffer : List ℕ) (lines size : ℕ) (e
 -- by the record of a line
 
 -- a data record has data, and they fit
-record DataFits (room at : ℕ) (line : List ℕ) (n : ℕ) : Type 0 where
-  some : 1 ≤ n
-  fits : at + n ≤ room
-  all : length (lineData line) ≡ n
+pub record DataFits (room at : ℕ) (line : List ℕ) (n : ℕ) : Type 0 where
+  pub some : 1 ≤ n
+  pub fits : at + n ≤ room
+  pub all : length (lineData line) ≡ n
 
-data-fits : (room at : ℕ) (line : List ℕ) (n : ℕ) → lineRecord room at line ≡ Data n → DataFits room at line n
+pub data-fits : (room at : ℕ) (line : List ℕ) (n : ℕ) → lineRecord room at line ≡ Data n → DataFits room at line n
 unfolding lineRecord
 data-fits room at line n e =
     decide (eqb (getD line (length line - 1) 0) 10)

@@ -61,10 +61,11 @@ fn smaller(one: usize, other: usize) -> usize
 pub fn power_on(level: u32, image: &mut [u8], size: usize) -> Panel
     ensures { λ r. ⌜ standing r (now (image .exit)) ≡ poweredOn level size (now (image .entry)) ⌝ }
 {
+    let kept = level_kept(level);
     let held = smaller(size, image.len());
-    let judged = panel::keep_accepted(level, image, held);
+    let judged = panel::keep_accepted(kept as u32, image, held);
     let answer = refusals::settled(judged, image);
-    after_load(level_kept(level), answer)
+    after_load(kept, answer)
 }
 
 // A whole text.
