@@ -137,10 +137,14 @@ is-line room at line judged e good =
     })
     (λ (q : eqb (getD line (length line - 1) 0) 10 ≡ false). absurd (good (sym (rw q at e))))
 
-module _ (room : ℕ) (image : List ℕ) where
-  abbrev Reads : (k : ℕ) (x : List ℕ) → List (List ℕ) → Type 0
-  Reads k x lines = reading room (k + 1) x [] (joined lines) ≡ result image
+-- a text's first line, up to its LF
+lines-at-lf : (passed l text : List ℕ) → Without 10 l → linesFrom passed (l ++ 10 ∷ text) ≡ (passed ++ (l ++ 10 ∷ [])) ∷ linesOf text
+unfolding linesFrom
+lines-at-lf passed [] text w = refl
+lines-at-lf passed (c ∷ l) text w =
+    rw (ne-eqb c 10 (w 0), lines-at-lf (passed ++ c ∷ []) l text (λ i. w (suc i)), append-assoc passed (c ∷ []) (l ++ 10 ∷ []))
 
+module _ (room : ℕ) (image : List ℕ) where
   refused-not : {X : Type 0} {r : Refusal} → refused r ≡ result image → X
   refused-not e = let z : _≡_ {A = ℕ} 0 1 = cc in absurd (omega arith)
 
@@ -148,13 +152,18 @@ module _ (room : ℕ) (image : List ℕ) where
   stopped-not lines r e = refused-not (rw (stopped-stays room lines r) at e)
 
   -- nothing may come after the end record
-  only-end : (k : ℕ) (x : List ℕ) (lines : List (List ℕ)) → atEnd (afterLines room lines (whole k x)) ≡ result image → (x ≡ image) × (joined lines ≡ [])
-  unfolding afterLines afterLine joined
+  only-end : (k : ℕ) (x : List ℕ) (lines : List (List ℕ)) → atEnd (afterLines room lines (whole k x)) ≡ result image → (x ≡ image) × (lines ≡ [])
+  unfolding afterLines afterLine
   only-end k x [] e = (cc, refl)
   only-end k x (line ∷ lines) e = stopped-not lines (refusal 1 (k + 1)) e
 
-  pieces-from : (k : ℕ) (x : List ℕ) (lines : List (List ℕ)) → atEnd (afterLines room lines (underWay k x)) ≡ result image → Reads k x lines
-  unfolding after afterLines afterLine joined
+  -- the text that the pieces make is read as the image, and its lines are the pieces
+  record ReadsAsLines (k : ℕ) (x : List ℕ) (pieces : List (List ℕ)) : Type 0 where
+    reads : reading room (k + 1) x [] (joined pieces) ≡ result image
+    are-lines : linesOf (joined pieces) ≡ pieces
+
+  pieces-from : (k : ℕ) (x : List ℕ) (pieces : List (List ℕ)) → atEnd (afterLines room pieces (underWay k x)) ≡ result image → ReadsAsLines k x pieces
+  unfolding after afterLines afterLine joined linesFrom
   pieces-from k x [] e = refused-not e
   pieces-from k x (line ∷ lines) e = by (λ h. pieces-from (k + 1) (x ++ lineData line) lines h) (lineRecord room (length x) line) refl
     where
@@ -169,19 +178,29 @@ module _ (room : ℕ) (image : List ℕ) where
             inside-is (l .inside),
           )
 
-      by : (atEnd (afterLines room lines (underWay (k + 1) (x ++ lineData line))) ≡ result image → Reads (k + 1) (x ++ lineData line) lines)
-          → (judged : Record) → lineRecord room (length x) line ≡ judged → Reads k x (line ∷ lines)
+      line-first : (judged : Record) → IsLine room (length x) line judged → linesOf (joined lines) ≡ lines → linesOf (line ++ joined lines) ≡ line ∷ lines
+      line-first judged l h =
+          rw (l .is, append-assoc (l .inside) (10 ∷ []) (joined lines), lines-at-lf [] (l .inside) (joined lines) (l .no-line-feed), h)
+
+      by : (atEnd (afterLines room lines (underWay (k + 1) (x ++ lineData line))) ≡ result image → ReadsAsLines (k + 1) (x ++ lineData line) lines)
+          → (judged : Record) → lineRecord room (length x) line ≡ judged → ReadsAsLines k x (line ∷ lines)
       by rest (Fault n) q = stopped-not lines (refusal n (k + 1)) (rw q at e)
       by rest (Data n) q =
           let l = is-line room (length x) line (Data n) q (λ z. let w : _≡_ {A = ℕ} 0 1 = cc in omega arith) in
-          read-on (Data n) l ∙ rest (rw q at e)
+          let r = rest (rw q at e) in
+          record { reads = read-on (Data n) l ∙ r .reads; are-lines = line-first (Data n) l (r .are-lines) }
       by rest End q =
           let l = is-line room (length x) line End q (λ z. let w : _≡_ {A = ℕ} 0 1 = cc in omega arith) in
           let o = only-end (k + 1) x lines (rw q at e) in
-          rw (read-on End l, o .1, o .0)
+          let none : joined lines ≡ [] = rw (o .1) in
+          record { reads = rw (read-on End l, none, o .0); are-lines = line-first End l (rw (o .1)) }
 
--- pieces that come to an image are the lines of a text that says it
-pub pieces-read : (size : ℕ) (pieces : List (List ℕ)) (image : List ℕ)
-    → atEnd (afterLines (min largestImage size) pieces (underWay 0 [])) ≡ result image → readText size (joined pieces) ≡ result image
-unfolding readText
-pieces-read size pieces image e = pieces-from (min largestImage size) image 0 [] pieces e
+module _ (size : ℕ) (pieces : List (List ℕ)) (image : List ℕ) (e : atEnd (afterLines (min largestImage size) pieces (underWay 0 [])) ≡ result image) where
+  -- pieces that come to an image are the lines of a text,
+  pub pieces-are-lines : linesOf (joined pieces) ≡ pieces
+  pieces-are-lines = pieces-from (min largestImage size) image 0 [] pieces e .are-lines
+
+  -- and that text says the image
+  pub pieces-read : readText size (joined pieces) ≡ result image
+  unfolding readText
+  pieces-read = pieces-from (min largestImage size) image 0 [] pieces e .reads

@@ -20,7 +20,7 @@ use Rattle.hextext.specs.Lines.{linesOf, lineRecord, lineData, Progress, underW
 use Rattle.hextext.specs.LinesLaws.{lines-read}
 use Rattle.panel.specs.Verdict.{verdictOf}
 use Rattle.panel.specs.Load.{judged, loadText}
-use Rattle.lamp.specs.Panel.{textWhole, afterLoad, Standing, standing, ended}
+use Rattle.lamp.specs.Panel.{textWhole, afterLoad, isLit, Standing, standing, ended}
 use Rattle.lamp.specs.Panel.{underWay as panelUnderWay}
 use Rattle.lamp.specs.Events.{textLoaded, textBegun, firstKept, firstWithheld, recordTaken, nextTaken, lineTaken, linesTaken, imageJudged, wholeJudged, textEnded}
 use Rattle.lamp.specs.LoadsLaws.{DataFits, data-fits}
@@ -51,6 +51,10 @@ zero-again : (n : ℕ) → set (replicate {A = ℕ} n 0) 0 0 ≡ replicate n 0
 zero-again zero = refl
 zero-again (suc n) = refl
 
+zeros-first : (n : ℕ) → getD (replicate {A = ℕ} n 0) 0 0 ≡ 0
+zeros-first zero = refl
+zeros-first (suc n) = refl
+
 not-first : (a : ℕ) (image : List ℕ) → eqb (length {A = ℕ} (a ∷ image)) 0 ≡ false
 not-first a image = ne-eqb (length {A = ℕ} (a ∷ image)) 0 (λ z. omega arith)
 
@@ -58,6 +62,10 @@ module _ (size : ℕ) where
   pub buffer-size : (image : List ℕ) → length image ≤ size → length (bufferOf size image) ≡ size
   buffer-size image h =
       omega (arith, length-append (set image 0 0) (replicate (size - length image) 0), length-set image 0 0, length-replicate {A = ℕ} (size - length image) 0)
+
+  first-zero : (image : List ℕ) → getD (bufferOf size image) 0 0 ≡ 0
+  first-zero [] = zeros-first (size - 0)
+  first-zero (a ∷ image) = refl
 
   -- data put after the image
   put-more : (image bytes : List ℕ) (n : ℕ) → length bytes ≡ n
@@ -166,6 +174,29 @@ module _ (level size : ℕ) where
       rw (restored-is image, take-at image (replicate (size - length image) 0) (length image) refl) (judged-is image k (verdictOf level image) refl)
   end-is (stopped r) c = refl
 
+  -- ---- what stays, and the lamp
+
+  pub of-level : (progress : Progress) → standingOf level size progress .panel .level ≡ level
+  of-level (underWay lines image) = refl
+  of-level (whole lines image) = refl
+  of-level (stopped r) = refl
+
+  pub of-size : (progress : Progress) → Counted size progress → length (standingOf level size progress .buffer) ≡ size
+  of-size (underWay lines image) (counted-under-way h k) = buffer-size size image (omega arith)
+  of-size (whole lines image) (counted-whole h k) = buffer-size size image (omega arith)
+  of-size (stopped r) c = length-replicate {A = ℕ} size 0
+
+  pub of-lamp : (progress : Progress) → isLit (standingOf level size progress .panel) ≡ false
+  of-lamp (underWay lines image) = refl
+  of-lamp (whole lines image) = refl
+  of-lamp (stopped r) = refl
+
+  -- the first byte of the buffer is 0
+  pub of-first : (progress : Progress) → getD (standingOf level size progress .buffer) 0 0 ≡ 0
+  of-first (underWay lines image) = first-zero size image
+  of-first (whole lines image) = first-zero size image
+  of-first (stopped r) = zeros-first size
+
 -- ---- from the beginning
 
 module _ (s : Standing) where
@@ -186,12 +217,15 @@ module _ (s : Standing) where
   unfolding textBegun
   begun-is = let e : size - 0 ≡ size = omega arith in rw e
 
+  pub pieces-counted : (pieces : List (List ℕ)) → Counted size (comesTo pieces)
+  pieces-counted pieces = steps level size pieces (underWay 0 []) begun-counted .1
+
   pub pieces-taken : (pieces : List (List ℕ)) → linesTaken pieces (textBegun s) ≡ standingOf level size (comesTo pieces)
   pieces-taken pieces = ap (linesTaken pieces) begun-is ∙ steps level size pieces (underWay 0 []) begun-counted .0
 
   pub pieces-ended : (pieces : List (List ℕ)) → textEnded (linesTaken pieces (textBegun s)) ≡ ended level size (judged level (atEnd (comesTo pieces)))
   pieces-ended pieces =
-      ap textEnded (pieces-taken pieces) ∙ end-is level size (comesTo pieces) (steps level size pieces (underWay 0 []) begun-counted .1)
+      ap textEnded (pieces-taken pieces) ∙ end-is level size (comesTo pieces) (pieces-counted pieces)
 
   -- begin, the lines of a text one by one, and end make of a panel what the whole text makes of it
   pub by-lines-whole : (text : List ℕ) → textEnded (linesTaken (linesOf text) (textBegun s)) ≡ textLoaded text s

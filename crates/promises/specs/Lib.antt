@@ -1,6 +1,7 @@
 pub mod Answers
 pub mod LaidOutAnew
 pub mod LowerLevel
+pub mod History
 pub mod Demand1
 pub mod Demand2
 pub mod Demand3
@@ -10,5 +11,6 @@ pub mod WorkedReadings
 pub mod AnswersLaws
 pub mod ZerosLaws
 pub mod AnewLaws
+pub mod HistoryLaws
 pub mod AnewBuilt
 pub mod Instances
