@@ -7,6 +7,7 @@ use native.Mathlib.Omega.{arith}
 use borrow.Author.Tests.{ne-eqb, eqb-true, eqb-false}
 use lib.Dec.{eqb}
 use lib.ListN.{length, take, getD, length-append, length-take}
+use Rattle.laws.specs.Lists.{last-apart}
 use Rattle.laws.specs.Cases.{decide}
 use Rattle.refusals.specs.Refusals.{result}
 use Rattle.hextext.specs.Record.{digit, bytesOf, recordBytes, countOf, dataOf, formed, lineOf, placed, judge}
