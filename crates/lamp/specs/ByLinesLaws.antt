@@ -98,9 +98,9 @@ module _ (level size : ℕ) where
   room = min largestImage size
 
   -- the step of the panel is the step of the text, and counts on
-  record Steps (line : List ℕ) (progress : Progress) : Type 0 where
-    same : lineTaken line (standingOf level size progress) ≡ standingOf level size (afterLine room line progress)
-    counts : Counted size (afterLine room line progress)
+  pub record Steps (line : List ℕ) (progress : Progress) : Type 0 where
+    pub same : lineTaken line (standingOf level size progress) ≡ standingOf level size (afterLine room line progress)
+    pub counts : Counted size (afterLine room line progress)
 
   small-line : (lines : ℕ) → lines < 5000 → (lines + 1) % 2 ^ 64 ≡ lines + 1
   small-line lines h = omega arith
@@ -136,7 +136,7 @@ module _ (level size : ℕ) where
       by End e = record { same = rw (long, e, next); counts = rw e (counted-whole {lines = lines + 1} {image = image} (omega arith) k) }
       by (Fault number) e = record { same = rw (long, e, next, long); counts = rw e counted-stopped }
 
-  step : (line : List ℕ) (progress : Progress) → Counted size progress → Steps line progress
+  pub step : (line : List ℕ) (progress : Progress) → Counted size progress → Steps line progress
   unfolding lineTaken afterLine
   step line (underWay lines image) (counted-under-way h k) = step-under-way line lines image h k
   step line (whole lines image) (counted-whole h k) =
@@ -199,6 +199,16 @@ module _ (level size : ℕ) where
 
 -- ---- from the beginning
 
+-- after any pieces, in a buffer of `size` bytes
+abbrev pub comesTo : (size : ℕ) (pieces : List (List ℕ)) → Progress
+comesTo size pieces = afterLines (min largestImage size) pieces (underWay 0 [])
+
+begun-counted : (size : ℕ) → Counted size (underWay 0 [])
+begun-counted size = counted-under-way {lines = 0} {image = []} (omega arith) (omega arith)
+
+pub pieces-counted : (size : ℕ) (pieces : List (List ℕ)) → Counted size (comesTo size pieces)
+pieces-counted size pieces = steps 0 size pieces (underWay 0 []) (begun-counted size) .1
+
 module _ (s : Standing) where
   abbrev size : ℕ
   size = length (s .buffer)
@@ -206,26 +216,15 @@ module _ (s : Standing) where
   abbrev level : ℕ
   level = s .panel .level
 
-  -- after any pieces
-  abbrev pub comesTo : (pieces : List (List ℕ)) → Progress
-  comesTo pieces = afterLines (min largestImage size) pieces (underWay 0 [])
-
-  begun-counted : Counted size (underWay 0 [])
-  begun-counted = counted-under-way {lines = 0} {image = []} (omega arith) (omega arith)
-
-  begun-is : textBegun s ≡ standingOf level size (underWay 0 [])
+  pub begun-is : textBegun s ≡ standingOf level size (underWay 0 [])
   unfolding textBegun
   begun-is = let e : size - 0 ≡ size = omega arith in rw e
 
-  pub pieces-counted : (pieces : List (List ℕ)) → Counted size (comesTo pieces)
-  pieces-counted pieces = steps level size pieces (underWay 0 []) begun-counted .1
+  pub pieces-taken : (pieces : List (List ℕ)) → linesTaken pieces (textBegun s) ≡ standingOf level size (comesTo size pieces)
+  pieces-taken pieces = ap (linesTaken pieces) begun-is ∙ steps level size pieces (underWay 0 []) (begun-counted size) .0
 
-  pub pieces-taken : (pieces : List (List ℕ)) → linesTaken pieces (textBegun s) ≡ standingOf level size (comesTo pieces)
-  pieces-taken pieces = ap (linesTaken pieces) begun-is ∙ steps level size pieces (underWay 0 []) begun-counted .0
-
-  pub pieces-ended : (pieces : List (List ℕ)) → textEnded (linesTaken pieces (textBegun s)) ≡ ended level size (judged level (atEnd (comesTo pieces)))
-  pieces-ended pieces =
-      ap textEnded (pieces-taken pieces) ∙ end-is level size (comesTo pieces) (pieces-counted pieces)
+  pub pieces-ended : (pieces : List (List ℕ)) → textEnded (linesTaken pieces (textBegun s)) ≡ ended level size (judged level (atEnd (comesTo size pieces)))
+  pieces-ended pieces = ap textEnded (pieces-taken pieces) ∙ end-is level size (comesTo size pieces) (pieces-counted size pieces)
 
   -- begin, the lines of a text one by one, and end make of a panel what the whole text makes of it
   pub by-lines-whole : (text : List ℕ) → textEnded (linesTaken (linesOf text) (textBegun s)) ≡ textLoaded text s
