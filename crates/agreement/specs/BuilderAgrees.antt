@@ -24,9 +24,9 @@ use Rattle.image.specs.SectionsRoundTrip.{image-bodies}
 use Rattle.image.specs.ImageRoundTrip.{sections-count, image-of-sections}
 use Rattle.builder.specs.declared.KindAndLength.{KindAndLength}
 use Rattle.builder.specs.Build.{sectionsOf, buildVerdict, buildImage}
-use Rattle.builder.specs.Lines.{linesGiven, kindsOf, lengthsOf, linesOf, noLine}
+use Rattle.builder.specs.Lines.{linesGiven, linesOf, noLine}
 use Rattle.builder.specs.BuildLaws.{bodies-whole, lines-counted, lines-again}
-use Rattle.builder.specs.GivenLaws.{given-counted, given-line, given-again}
+use Rattle.builder.specs.GivenLaws.{given-counted, given-line}
 use Rattle.builder.specs.Built.{kept-to, built-good, built-sections, built-bytes, good-built}
 use Rattle.agreement.specs.TableLaws.{filling-refused-exactly, filled-exactly}
 use Rattle.agreement.specs.FieldsAgree.{number-same}
@@ -41,12 +41,6 @@ unfolding buildImage
 build-refused-exactly size kinds lengths bodies =
     filling-refused-exactly (builderTable size kinds lengths bodies) (builder-single size kinds lengths bodies)
     (buildVerdict size (linesGiven kinds lengths) bodies) (builder-gives size kinds lengths bodies) (imageOf (sectionsOf (linesGiven kinds lengths) bodies))
-
--- any list of lines is given by its own kinds and lengths
-pub lines-refused-exactly : (size : ℕ) (lines : List KindAndLength) (bodies : List ℕ) (number detail : ℕ)
-    → (buildImage size lines bodies ≡ refused (refusal number detail)) ↔ FirstGiven (builderTable size (kindsOf lines) (lengthsOf lines) bodies) number detail
-lines-refused-exactly size lines bodies number detail =
-    rw (given-again lines) at (build-refused-exactly size (kindsOf lines) (lengthsOf lines) bodies number detail)
 
 -- ---- the image
 
@@ -141,9 +135,3 @@ module _ (size : ℕ) (kinds lengths bodies image : List ℕ) where
       filled-exactly (builderTable size kinds lengths bodies) (builder-single size kinds lengths bodies) (buildVerdict size given bodies)
       (builder-gives size kinds lengths bodies) (imageOf (sectionsOf given bodies)) image in
       (λ made. let none = so .0 made .0 in (none, image-made b none made), λ f. made-so (f .0) (f .1))
-
-module _ (size : ℕ) (lines : List KindAndLength) (bodies image : List ℕ) where
-  pub lines-built-exactly : Bytes bodies
-      → (buildImage size lines bodies ≡ result image) ↔ (
-      NoneGiven (builderTable size (kindsOf lines) (lengthsOf lines) bodies) × IsImageOf (kindsOf lines) (lengthsOf lines) bodies image)
-  lines-built-exactly b = rw (given-again lines) at (built-exactly size (kindsOf lines) (lengthsOf lines) bodies image b)

@@ -9,6 +9,7 @@ use native.Mathlib.Omega.{arith}
 use borrow.Author.Tests.{leb-true, eqb-true, eqb-false}
 use lib.Dec.{leb, eqb}
 use lib.ListN.{length, getD}
+use Rattle.limits.specs.Limits.{largestImage, mostLines}
 use Rattle.paper.specs.Words.{Not, Outside}
 use Rattle.paper.specs.Fields.{sumFrom}
 use Rattle.paper.specs.Table.{row}
@@ -69,7 +70,7 @@ module _ (kinds lengths : List ℕ) where
   SomeWrong = (i : ℕ) × (i < length kinds) × KindWrong kinds i
 
   abbrev LinesWrong : Type 0
-  LinesWrong = Not (length kinds ≡ length lengths) ⊎ Outside 1 16 (length kinds) ⊎ SomeWrong
+  LinesWrong = Not (length kinds ≡ length lengths) ⊎ Outside 1 mostLines (length kinds) ⊎ SomeWrong
 
   lines-fail : Fails (linesRight (linesGiven kinds lengths)) LinesWrong
   unfolding kindsRise
@@ -79,8 +80,8 @@ module _ (kinds lengths : List ℕ) where
       let even = eqb-true (length kinds) (length lengths) t in
       let rise : Fails (kindsRise 0 (paired kinds lengths)) SomeWrong =
       fails-as (λ (i, h, w). (i, h, wrong-as kinds i w)) (λ (i, h, w). (i, h, as-wrong kinds i w)) (rise-fails 0 kinds lengths even) in
-      rw (given-counted kinds lengths even, ← lines-first kinds lengths even, ← and-assoc (leb 1 (length kinds)) (leb (length kinds) 16) _)
-      (fails-as inr (⊎-elim (λ n. absurd (n even)) (λ w. w)) (fails-and (fails-outside 1 16 (length kinds)) rise)))
+      rw (given-counted kinds lengths even, ← lines-first kinds lengths even, ← and-assoc (leb 1 (length kinds)) (leb (length kinds) mostLines) _)
+      (fails-as inr (⊎-elim (λ n. absurd (n even)) (λ w. w)) (fails-and (fails-outside 1 mostLines (length kinds)) rise)))
       (λ (f : eqb (length kinds) (length lengths) ≡ false).
       let uneven = eqb-false (length kinds) (length lengths) f in
       rw (given-uneven kinds lengths uneven) (record { bad = λ e. inl uneven; good = λ e. never e }))
@@ -92,7 +93,7 @@ module _ (size : ℕ) (kinds lengths bodies : List ℕ) where
   lines = linesGiven kinds lengths
 
   abbrev LengthsWrong : Type 0
-  LengthsWrong = Not (sumFrom (length lengths) lengths 0 ≡ length bodies) ⊎ (4096 < 2 + 8 * length kinds + length bodies)
+  LengthsWrong = Not (sumFrom (length lengths) lengths 0 ≡ length bodies) ⊎ (largestImage < 2 + 8 * length kinds + length bodies)
 
   abbrev TooLong : Type 0
   TooLong = size < 2 + 8 * length kinds + length bodies
@@ -101,7 +102,7 @@ module _ (size : ℕ) (kinds lengths bodies : List ℕ) where
     lengths-fail : Fails (lengthsRight lines bodies) LengthsWrong
     lengths-fail =
         rw (given-total kinds lengths e, given-counted kinds lengths e, sum-of-all lengths)
-        (fails-and (fails-eq _ (length bodies)) (fails-le (2 + 8 * length kinds + length bodies) 4096))
+        (fails-and (fails-eq _ (length bodies)) (fails-le (2 + 8 * length kinds + length bodies) largestImage))
 
     room-fails : Fails (leb (imageLength lines bodies) size) TooLong
     room-fails = rw (given-counted kinds lengths e) (fails-le (2 + 8 * length kinds + length bodies) size)

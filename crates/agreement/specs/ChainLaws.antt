@@ -6,6 +6,7 @@ use Prim.Native.Nat.{ℕ, zero, suc, _+_, _-_, _^_, _≤_, _<_}
 use native.Mathlib.Omega.{arith}
 use lib.Dec.{leb, lit<}
 use lib.IntN.{ℤ, pos, natAbs, _+ℤ_, _*ℤ_, +ℤ-idr, zero-*ℤ}
+use Rattle.limits.specs.Limits.{largestSum}
 use Rattle.paper.specs.Words.{Not, Beyond}
 use Rattle.paper.specs.Reading.{Sum}
 use Rattle.laws.specs.Cases.{split, decide}
@@ -39,7 +40,7 @@ module _ (kind : ℕ) (x : ℤ) (last : ℕ) (Term : ℕ → ℤ → Type 0) (on
   TermGives i (Refused r) = (r ≡ refusal 25 kind) × Bad i
 
   abbrev SumBeyond : (i : ℕ) → Type 0
-  SumBeyond i = (z : ℤ) × Sum x Term (last - i) i z × Beyond 500000000000 z
+  SumBeyond i = (z : ℤ) × Sum x Term (last - i) i z × Beyond largestSum z
 
   abbrev pub ChainGives : (i : ℕ) → Value → Type 0
   ChainGives i (Known z) =
@@ -65,7 +66,7 @@ module _ (kind : ℕ) (x : ℤ) (last : ℕ) (Term : ℕ → ℤ → Type 0) (on
     step-gives : Good i → ChainGives i (stepOf kind x c sum)
     unfolding stepOf within
     step-gives good =
-        decide (leb (natAbs next) 500000000000)
+        decide (leb (natAbs next) largestSum)
         (λ e.
         rw e (
           λ l. next-sum,
@@ -76,11 +77,11 @@ module _ (kind : ℕ) (x : ℤ) (last : ℕ) (Term : ℕ → ℤ → Type 0) (on
               let same : j ≡ i = omega arith in
               rw same (
                 good,
-                λ (z, is, beyond). fails-beyond 500000000000 next .good e (rw (sum-once x Term once (last - i) i z next is next-sum) at beyond),
+                λ (z, is, beyond). fails-beyond largestSum next .good e (rw (sum-once x Term once (last - i) i z next is next-sum) at beyond),
               ))
               (λ (l : i < j). g .2 j (omega arith) high),
         ))
-        (λ e. rw e (refl, (i, omega arith, h, inr (next, next-sum, fails-beyond 500000000000 next .bad e))))
+        (λ e. rw e (refl, (i, omega arith, h, inr (next, next-sum, fails-beyond largestSum next .bad e))))
 
   next-gives : (i : ℕ) → i ≤ last → (rest : Value) → ChainGives (i + 1) rest → (v : Value) → TermGives i v
       → ChainGives i (withValue rest (λ sum. withValue v (λ c. stepOf kind x c sum)))

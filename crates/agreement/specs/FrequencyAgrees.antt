@@ -9,6 +9,7 @@ use borrow.Author.Tests.{leb-true, eqb-true, eqb-false}
 use lib.Dec.{leb, eqb, lit<}
 use lib.IntN.{ℤ, pos, _-ℤ_, _*ℤ_}
 use lib.Signed.{leZ, _<ℤ_}
+use Rattle.limits.specs.Limits.{highestFrequency}
 use Rattle.paper.specs.Words.{Outside, Beyond}
 use Rattle.paper.specs.Table.{row}
 use Rattle.paper.specs.Reading.{Frequency, Prescaled}
@@ -28,17 +29,17 @@ use Rattle.agreement.specs.ValueLaws.{ValueGives, given-then, within-giv
 
 module _ (channel ns nr : ℕ) where
   abbrev FrequencyOutside : Type 0
-  FrequencyOutside = (f : ℤ) × Frequency ns nr f × ((f <ℤ pos 655360000) ⊎ (pos 6553600000 <ℤ f))
+  FrequencyOutside = (f : ℤ) × Frequency ns nr f × ((f <ℤ pos 655360000) ⊎ (pos highestFrequency <ℤ f))
 
   hertz-nearest : 1 ≤ nr → Frequency ns nr (hertz ns nr)
   unfolding hertz
   hertz-nearest h = rounded-is-nearest (pos (7200000 * 65536 * ns)) nr h
 
-  hertz-fails : 1 ≤ nr → Fails (leZ (pos 655360000) (hertz ns nr) && leZ (hertz ns nr) (pos 6553600000)) FrequencyOutside
+  hertz-fails : 1 ≤ nr → Fails (leZ (pos 655360000) (hertz ns nr) && leZ (hertz ns nr) (pos highestFrequency)) FrequencyOutside
   hertz-fails h =
       fails-as (λ w. (hertz ns nr, hertz-nearest h, w))
       (λ (f, is, w). rw (nearest-once (pos (7200000 * 65536 * ns)) nr h (hertz ns nr) f (hertz-nearest h) is) w)
-      (fails-and (fails-leℤ (pos 655360000) (hertz ns nr)) (fails-leℤ (hertz ns nr) (pos 6553600000)))
+      (fails-and (fails-leℤ (pos 655360000) (hertz ns nr)) (fails-leℤ (hertz ns nr) (pos highestFrequency)))
 
   reference-fails : Fails (leb 1 nr) (nr ≡ 0)
   reference-fails = fails-as (λ h. omega arith) (λ h. omega arith) (fails-le 1 nr)
@@ -52,7 +53,7 @@ module _ (channel ns nr : ℕ) where
   frequency-gives =
       let row22 = row 22 channel (nr ≡ 0) in
       let row23 = row 23 channel FrequencyOutside in
-      let inLimits = leZ (pos 655360000) (hertz ns nr) && leZ (hertz ns nr) (pos 6553600000) in
+      let inLimits = leZ (pos 655360000) (hertz ns nr) && leZ (hertz ns nr) (pos highestFrequency) in
       let known = Known (hertz ns nr) in
       given-then (row 21 channel (Outside 1 1048576 ns)) (row22 ∷ row23 ∷ []) Counted (ask (leb 1 ns && leb ns 1048576) 21 channel)
       (given (ask (leb 1 nr) 22 channel) (given (ask inLimits 23 channel) known))

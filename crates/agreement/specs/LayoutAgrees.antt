@@ -8,6 +8,7 @@ use native.Mathlib.Numerals.{add-one}
 use native.Mathlib.Omega.{arith}
 use lib.Dec.{leb, eqb}
 use lib.ListN.{length}
+use Rattle.limits.specs.Limits.{largestImage, mostLines}
 use Rattle.paper.specs.Words.{Not, Lowest}
 use Rattle.paper.specs.Fields.{number, sumFrom}
 use Rattle.paper.specs.Table.{Row, row, NoneGiven, FirstGiven}
@@ -54,13 +55,13 @@ module _ (image : List ℕ) where
   start-judges : Judges (row 5 0 (StartWrong image)) (startVerdict (length image) image)
   unfolding startVerdict
   start-judges =
-      rw (both-asked (leb 2 (length image) && leb (length image) 4096) (eqb (numberAt 1 image 0) 0x51) 5 0, ← number-same)
-      (ask-judges 5 0 _ (fails-and (fails-outside 2 4096 (length image)) (fails-eq (number 1 image 0) 0x51)))
+      rw (both-asked (leb 2 (length image) && leb (length image) largestImage) (eqb (numberAt 1 image 0) 0x51) 5 0, ← number-same)
+      (ask-judges 5 0 _ (fails-and (fails-outside 2 largestImage (length image)) (fails-eq (number 1 image 0) 0x51)))
 
   count-judges : Judges (row 6 0 (CountWrong image)) (countVerdict (length image) image)
   unfolding countVerdict
   count-judges =
-      rw (← number-same) (ask-judges 6 0 _ (fails-and (fails-outside 1 16 (lineCount image)) (fails-le (2 + 8 * lineCount image) (length image))))
+      rw (← number-same) (ask-judges 6 0 _ (fails-and (fails-outside 1 mostLines (lineCount image)) (fails-le (2 + 8 * lineCount image) (length image))))
 
   line-fails : (i : ℕ) → i < lineCount image → Fails (lineRight image i (kindBefore image i) (endBefore image i)) (BreaksLayout image i)
   line-fails i h =

@@ -9,6 +9,7 @@ use borrow.Author.Tests.{le-leb, lt-leb, eqb-true, eqb-false}
 use lib.Dec.{eqb, lit<}
 use lib.IntN.{ℤ, pos, _-ℤ_, _*ℤ_}
 use lib.ListN.{length}
+use Rattle.limits.specs.Limits.{largestSum}
 use Rattle.paper.specs.Words.{Not, Beyond}
 use Rattle.paper.specs.Fields.{number}
 use Rattle.paper.specs.Table.{Row, row}
@@ -83,7 +84,7 @@ module _ (body : List ℕ) (right : Not (SetWrong body)) where
     -- ---- a row
 
     abbrev PlaceBeyond : (r p : ℕ) → Type 0
-    PlaceBeyond r p = (z : ℤ) × RowFrom body xt r p z × Beyond 500000000000 z
+    PlaceBeyond r p = (z : ℤ) × RowFrom body xt r p z × Beyond largestSum z
 
     abbrev RowGood : (r : ℕ) → Type 0
     RowGood r = (p : ℕ) → p ≤ temperatureOrder body → Not (PlaceBeyond r p)
@@ -116,7 +117,7 @@ module _ (body : List ℕ) (right : Not (SetWrong body)) where
     -- ---- the rows
 
     abbrev RunningBeyond : Type 0
-    RunningBeyond = (z : ℤ) × RunningSum body xp xt z × Beyond 500000000000 z
+    RunningBeyond = (z : ℤ) × RunningSum body xp xt z × Beyond largestSum z
 
     rows-once : (c d : ℤ) → RowsFrom body xp xt 0 c → RowsFrom body xp xt 0 d → c ≡ d
     rows-once c d = sum-once xp (λ (r : ℕ) (e : ℤ). RowFrom body xt r 0 e) row-once (pressureOrder body - 0) 0 c d

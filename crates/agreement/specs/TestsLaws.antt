@@ -93,6 +93,9 @@ pub record Passes (test : Bool) (P : Type 0) : Type 0 where
 pub passes-eq : (a b : ℕ) → Passes (eqb a b) (a ≡ b)
 passes-eq a b = record { yes = eqb-true a b; no = eqb-false a b }
 
+pub passes-le : (a b : ℕ) → Passes (leb a b) (a ≤ b)
+passes-le a b = record { yes = leb-true a b; no = λ e h. let k = leb-false a b e in omega arith }
+
 pub passes-or : {a b : Bool} {P Q : Type 0} → Passes a P → Passes b Q → Passes (a || b) (P ⊎ Q)
 passes-or {a = true} f g = record { yes = λ e. inl (f .yes refl); no = λ e. never (sym e) }
 passes-or {a = false} f g = record { yes = λ e. inr (g .yes e); no = λ e. ⊎-elim (f .no refl) (g .no e) }

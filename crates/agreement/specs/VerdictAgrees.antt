@@ -7,13 +7,14 @@ use mathlib.Core.Path.{_≡_, refl, sym, ap, _∙_}
 use Prim.Native.Nat.{ℕ, zero, suc, _+_, _≤_, _<_}
 use native.Mathlib.Numerals.{add-one}
 use native.Mathlib.Omega.{arith}
-use borrow.Author.Tests.{leb-true, leb-false, eqb-true, eqb-false}
+use borrow.Author.Tests.{leb-true, leb-false}
 use lib.Dec.{eqb}
 use Rattle.paper.specs.Words.{Not, Lowest}
 use Rattle.paper.specs.Table.{Row, row, NoneGiven, FirstGiven}
 use Rattle.paper.specs.Image.{HasKind, HasBody, layoutTable}
 use Rattle.paper.specs.Bodies.{IdentityWrong, SetWrong, TrimWrong, NoteWrong}
 use Rattle.paper.specs.Verdict.{IsLevel, Knows, UnknownLow, Missing, BodyWrong, sectionsTable, verdictTable}
+use Rattle.limits.specs.Limits.{lastLevel}
 use Rattle.laws.specs.Cases.{split, decide, never}
 use Rattle.refusals.specs.declared.Verdict.the-variants.{Accepted, Refused}
 use Rattle.refusals.specs.Refusals.{refusal, andThen}
@@ -26,7 +27,7 @@ use Rattle.image.specs.OrderLaws.{Ascending, sections-ascend}
 use Rattle.panel.specs.Levels.{isLevel, knows, mayPass}
 use Rattle.panel.specs.Verdict.{levelVerdict, unknownVerdict, missingVerdict, kindVerdict, thereVerdict, kindsVerdict, bodiesVerdict, sectionsVerdict, verdictOf}
 use Rattle.agreement.specs.TableLaws.{Gives, Judges, none-before, none-after, gives-append, gives-then, Single, single-append, row-once, lowest-once, refused-exactly, accepted-exactly}
-use Rattle.agreement.specs.TestsLaws.{Fails, fails-as, Passes, passes-eq, passes-or, passes-never, passes-as, passes-fails, ask-judges, judges-as}
+use Rattle.agreement.specs.TestsLaws.{Fails, fails-as, Passes, passes-eq, passes-le, passes-or, passes-and, passes-never, passes-as, passes-fails, ask-judges, judges-as}
 use Rattle.agreement.specs.FieldsAgree.{number-same}
 use Rattle.agreement.specs.KindsAgree.{later-above, found-is-had, had-is-found, there-passes}
 use Rattle.agreement.specs.LayoutAgrees.{NoneBelow, none-next, lowest, lowest-then, lowest-last, layout-gives, layout-single, layout-accepted-exactly}
@@ -36,11 +37,10 @@ use Rattle.agreement.specs.BodiesAgree.{identity-judges, set-judges, tri
 
 level-passes : (level : ℕ) → Passes (isLevel level) (IsLevel level)
 level-passes level =
-    decide (eqb level 1)
-    (λ e. rw e (record { yes = λ f. inl (eqb-true level 1 e); no = λ f. never (sym f) }))
-    (λ e. decide (eqb level 2)
-    (λ f. rw (e, f) (record { yes = λ g. inr (eqb-true level 2 f); no = λ g. never (sym g) }))
-    (λ f. rw (e, f) (record { yes = λ g. never g; no = λ g. ⊎-elim (eqb-false level 1 e) (eqb-false level 2 f) })))
+    passes-as
+    (λ h. split level 1 (λ (k : level ≤ 1). inl (omega (arith, h .0))) (λ (k : 1 < level). inr (omega (arith, h .1))))
+    (⊎-elim (λ e. (omega arith, omega arith)) (λ e. (omega arith, omega arith)))
+    (passes-and (passes-le 1 level) (passes-le level lastLevel))
 
 -- one of kinds 1 to 3, or what another test finds
 three-then : (kind : ℕ) {c : Bool} {Q : Type 0} → Passes c Q → Passes (eqb kind 1 || (eqb kind 2 || (eqb kind 3 || c))) (((1 ≤ kind) × (kind ≤ 3)) ⊎ Q)

@@ -6,6 +6,7 @@ use Prim.Native.Nat.{ℕ, _*_, _/_, _%_, _+_, _≤_, _<_}
 use native.Mathlib.Omega.{arith}
 use lib.Dec.{leb}
 use lib.ListN.{length}
+use Rattle.limits.specs.Limits.{largestImage}
 use Rattle.paper.specs.Table.{row, NoneGiven, FirstGiven}
 use Rattle.paper.specs.Writer.{TextLength, fullRecords, andOneMore, writerTable}
 use Rattle.laws.specs.Bytes.{Bytes}
@@ -47,19 +48,19 @@ module _ (size : ℕ) (image : List ℕ) where
       (fails-le (textLength (length image)) size)
 
   abbrev small : Verdict
-  small = ask (leb (length image) 4096) 4 0
+  small = ask (leb (length image) largestImage) 4 0
 
   abbrev fits : Verdict
   fits = ask (leb (textLength (length image)) size) 17 0
 
   writer-gives : Gives (writerTable size image) (andThen small fits)
   writer-gives =
-      gives-then (row 4 0 (4096 < length image)) (row 17 0 TooLong ∷ []) small fits
-      (ask-judges 4 0 (leb (length image) 4096) (fails-le (length image) 4096))
+      gives-then (row 4 0 (largestImage < length image)) (row 17 0 TooLong ∷ []) small fits
+      (ask-judges 4 0 (leb (length image) largestImage) (fails-le (length image) largestImage))
       (λ e. judged-alone (row 17 0 TooLong) fits (ask-judges 17 0 (leb (textLength (length image)) size) room-fails))
 
   writer-single : Single (writerTable size image)
-  writer-single = (row-once 0 (4096 < length image), (row-once 0 TooLong, tt))
+  writer-single = (row-once 0 (largestImage < length image), (row-once 0 TooLong, tt))
 
   pub write-refused-exactly : (number detail : ℕ)
       → (writeImage size image ≡ refused (refusal number detail)) ↔ FirstGiven (writerTable size image) number detail
@@ -71,5 +72,5 @@ module _ (size : ℕ) (image : List ℕ) where
   written-exactly text b =
       let so = filled-exactly (writerTable size image) writer-single (andThen small fits) writer-gives (textOf image) text in
       let is : NoneGiven (writerTable size image) → (text ≡ textOf image) ↔ Written image text =
-      λ n. text-exactly image text b (split (length image) 4096 (λ h. h) (λ h. absurd (n .0 0 (refl, h)))) in
+      λ n. text-exactly image text b (split (length image) largestImage (λ h. h) (λ h. absurd (n .0 0 (refl, h)))) in
       (λ e. let f = so .0 e in (f .0, is (f .0) .0 (sym (f .1))), λ f. so .1 (f .0, sym (is (f .0) .1 (f .1))))

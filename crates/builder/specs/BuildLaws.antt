@@ -2,23 +2,21 @@
 use mathlib.Core.Path.{_≡_, refl, ap}
 use mathlib.Core.Bool.{Bool, true, _&&_}
 use mathlib.Core.List.{List, [], _∷_}
-use mathlib.Core.Option.{some}
-use Prim.Native.Nat.{ℕ, zero, suc, _≤_, _<_}
+use Prim.Native.Nat.{ℕ, zero, suc, _≤_}
 use native.Mathlib.Omega.{arith}
-use borrow.Author.Tests.{leb-true, ltb-true, eqb-true, le-leb, lt-ltb, eq-eqb, ne-eqb}
+use borrow.Author.Tests.{leb-true, ltb-true, eqb-true, le-leb, lt-ltb, eq-eqb}
 use lib.Dec.{leb, ltb, eqb}
-use lib.ListN.{length, take, drop, getD, length-append, length-drop, take-append-drop}
-use lib.Seq.{length-take-le, take-append-seam, drop-append-seam, drop-drop}
+use lib.ListN.{length, drop, getD, length-append, length-drop, take-append-drop}
+use lib.Seq.{length-take-le, take-append-seam, drop-append-seam}
 use Rattle.limits.specs.Limits.{largestImage, mostLines}
 use Rattle.laws.specs.Cases.{both-left, both-right}
 use Rattle.refusals.specs.declared.Verdict.the-variants.{Accepted}
 use Rattle.refusals.specs.Refusals.{ask}
 use Rattle.refusals.specs.VerdictLaws.{asked, first-passed, next-passed}
 use Rattle.image.specs.Sections.{Section, bodiesOf, Rising}
-use Rattle.image.specs.Find.{bodyOf}
 use Rattle.builder.specs.declared.KindAndLength.{KindAndLength}
 use Rattle.builder.specs.Build.{sectionsOf, kindsRise, lengthsTotal, imageLength, buildVerdict}
-use Rattle.builder.specs.Lines.{linesOf, noLine, bodyGiven}
+use Rattle.builder.specs.Lines.{linesOf, noLine}
 
 -- ---- from lines to sections
 
@@ -45,40 +43,11 @@ sections-rise previous (l ∷ lines) bodies e =
       sections-rise (l .kind) lines (drop (l .length) bodies) (both-right (leb (l .kind) 255) _ rest),
     )
 
--- a line's kind stands above `previous`, and so above all kinds before it
-line-rises : (previous : ℕ) (lines : List KindAndLength) (i : ℕ) → kindsRise previous lines ≡ true → i < length lines → previous < getD lines i noLine .kind
-unfolding kindsRise
-line-rises previous [] i e h = absurd (omega arith)
-line-rises previous (l ∷ lines) zero e h = ltb-true previous (l .kind) (both-left _ _ e)
-line-rises previous (l ∷ lines) (suc i) e h =
-    let above = line-rises (l .kind) lines i (both-right (leb (l .kind) 255) _ (both-right (ltb previous (l .kind)) _ e)) (omega arith) in
-    let first = ltb-true previous (l .kind) (both-left _ _ e) in
-    omega arith
-
 pub line-small : (previous : ℕ) (lines : List KindAndLength) (i : ℕ) → kindsRise previous lines ≡ true → getD lines i noLine .kind ≤ 255
 unfolding kindsRise
 line-small previous [] i e = omega arith
 line-small previous (l ∷ lines) zero e = leb-true (l .kind) 255 (both-left _ _ (both-right (ltb previous (l .kind)) _ e))
 line-small previous (l ∷ lines) (suc i) e = line-small (l .kind) lines i (both-right (leb (l .kind) 255) _ (both-right (ltb previous (l .kind)) _ e))
-
-pub line-short : (lines : List KindAndLength) (i : ℕ) → getD lines i noLine .length ≤ lengthsTotal lines
-unfolding lengthsTotal
-line-short [] i = omega arith
-line-short (l ∷ lines) zero = omega arith
-line-short (l ∷ lines) (suc i) = omega (arith, line-short lines i)
-
--- among the sections a line's kind has the body that the line is given
-pub body-given : (previous : ℕ) (lines : List KindAndLength) (bodies : List ℕ) (i : ℕ) → kindsRise previous lines ≡ true → i < length lines
-    → bodyOf (getD lines i noLine .kind) (sectionsOf lines bodies) ≡ some (bodyGiven lines bodies i)
-unfolding kindsRise sectionsOf bodyOf lengthsTotal
-body-given previous [] bodies i e h = absurd (omega arith)
-body-given previous (l ∷ lines) bodies zero e h = rw (eq-eqb (l .kind) (l .kind) refl)
-body-given previous (l ∷ lines) bodies (suc i) e h =
-    let rises = both-right (leb (l .kind) 255) _ (both-right (ltb previous (l .kind)) _ e) in
-    let above = line-rises (l .kind) lines i rises (omega arith) in
-    let other : getD lines i noLine .kind ≡ l .kind → ⊥ = λ s. omega arith in
-    let later = body-given (l .kind) lines (drop (l .length) bodies) i rises (omega arith) in
-    rw (ne-eqb (getD lines i noLine .kind) (l .kind) other, later, drop-drop (lengthsTotal (take i lines)) (l .length) bodies)
 
 -- ---- and back
 

@@ -2,11 +2,10 @@
 use mathlib.Core.Path.{_≡_, sym, ap, _∙_}
 use mathlib.Core.Logic.{_↔_}
 use mathlib.Core.List.{List}
-use mathlib.Core.Option.{some}
-use Prim.Native.Nat.{ℕ, _≤_, _<_}
+use Prim.Native.Nat.{ℕ, _≤_}
 use native.Mathlib.Nat.{le-refl}
 use native.Mathlib.Omega.{arith}
-use lib.ListN.{length, getD}
+use lib.ListN.{length}
 use Rattle.laws.specs.Bytes.{Bytes}
 use Rattle.refusals.specs.declared.Verdict.the-variants.{Accepted}
 use Rattle.refusals.specs.Refusals.{result}
@@ -19,8 +18,8 @@ use Rattle.image.specs.Find.{bodyOf, found}
 use Rattle.image.specs.FindLaws.{found-in-image}
 use Rattle.builder.specs.declared.KindAndLength.{KindAndLength}
 use Rattle.builder.specs.Build.{sectionsOf, buildVerdict, buildImage, Built}
-use Rattle.builder.specs.Lines.{linesOf, noLine, bodyGiven}
-use Rattle.builder.specs.BuildLaws.{line-small, line-short, body-given, AcceptedLines, passed, passes, sections-counted, bodies-whole, sections-rise, lines-counted, lines-total, lines-rise, sections-again}
+use Rattle.builder.specs.Lines.{linesOf}
+use Rattle.builder.specs.BuildLaws.{AcceptedLines, passed, passes, sections-counted, bodies-whole, sections-rise, lines-counted, lines-total, lines-rise, sections-again}
 
 module _ (size : ℕ) (lines : List KindAndLength) (bodies image : List ℕ) (made : buildImage size lines bodies ≡ result image) where
   checked-as : (buildVerdict size lines bodies ≡ Accepted) × (imageOf (sectionsOf lines bodies) ≡ image)
@@ -53,17 +52,9 @@ module _ (size : ℕ) (lines : List KindAndLength) (bodies image : List ℕ) (ma
   pub built-found : (kind : ℕ) → found image kind ≡ bodyOf kind (sectionsOf lines bodies)
   built-found kind = rw (← checked-as .1) (found-in-image (sectionsOf lines bodies) kind fit)
 
-  -- So the kind of each line has the body that the line's length cuts out of the bodies.
-  pub built-found-line : (i : ℕ) → i < length lines → found image (getD lines i noLine .kind) ≡ some (bodyGiven lines bodies i)
-  built-found-line i h = built-found (getD lines i noLine .kind) ∙ body-given 0 lines bodies i (kept-to .rise) h
-
   -- It is made of bytes where the bodies are.
   pub built-bytes : Bytes bodies → Bytes image
   built-bytes b = rw (← checked-as .1) (image-bytes (sectionsOf lines bodies) fit (rw (bodies-whole lines bodies (kept-to .whole)) b))
-
-  -- No number in an accepted list of lines is too large for a `KindAndLength`, so the list can be lent.
-  pub built-lendable : (i : ℕ) → (getD lines i noLine .kind ≤ 255) × (getD lines i noLine .length ≤ 4096)
-  built-lendable i = (line-small 0 lines i (kept-to .rise), omega (arith, line-short lines i, kept-to .whole, kept-to .limit))
 
 -- Each image with a good layout is built, byte for byte, from the lines of its own sections and their bodies joined.
 pub good-built : (size : ℕ) (image : List ℕ) → Bytes image → layoutVerdict image ≡ Accepted → length image ≤ size

@@ -7,6 +7,7 @@ use native.Mathlib.Omega.{arith}
 use borrow.Author.Tests.{lt-ltb, le-ltb, le-leb, lt-leb, eq-eqb, ne-eqb, eqb-true, eqb-false, leb-true, not-true, not-false}
 use lib.Dec.{leb, ltb, eqb}
 use lib.ListN.{length, drop, getD}
+use Rattle.limits.specs.Limits.{largestImage, mostLines}
 use Rattle.laws.specs.Cases.{split, decide, both-left, both-right}
 use Rattle.laws.specs.Sums.{total}
 use Rattle.laws.specs.SumsLaws.{total-more, total-end}
@@ -75,27 +76,27 @@ module _ (kinds lengths : List ℕ) where
     lines-none h = rw (given-counted kinds lengths e, lt-leb 1 (length kinds) h)
 
     -- more than 16, or than any greater bound
-    pub lines-many : (most : ℕ) → 16 ≤ most → most < length kinds → false ≡ linesRight (linesGiven kinds lengths)
+    pub lines-many : (most : ℕ) → mostLines ≤ most → most < length kinds → false ≡ linesRight (linesGiven kinds lengths)
     lines-many most g h =
         let some : 1 ≤ length kinds = omega arith in
-        let many : 16 < length kinds = omega arith in
-        rw (given-counted kinds lengths e, le-leb 1 (length kinds) some, lt-leb (length kinds) 16 many)
+        let many : mostLines < length kinds = omega arith in
+        rw (given-counted kinds lengths e, le-leb 1 (length kinds) some, lt-leb (length kinds) mostLines many)
 
     -- up to 16, or to any lower bound
-    pub lines-rise : (r : Bool) (most : ℕ) → most ≤ 16 → 1 ≤ length kinds → length kinds ≤ most → KindsJudged kinds r
+    pub lines-rise : (r : Bool) (most : ℕ) → most ≤ mostLines → 1 ≤ length kinds → length kinds ≤ most → KindsJudged kinds r
         → r ≡ linesRight (linesGiven kinds lengths)
     lines-rise r most l h k rise =
-        let few : length kinds ≤ 16 = omega arith in
-        rw (given-counted kinds lengths e, le-leb 1 (length kinds) h, le-leb (length kinds) 16 few) (rise lengths e)
+        let few : length kinds ≤ mostLines = omega arith in
+        rw (given-counted kinds lengths e, le-leb 1 (length kinds) h, le-leb (length kinds) mostLines few) (rise lengths e)
 
   module _ (r : Bool) (e : r ≡ linesRight (linesGiven kinds lengths)) (t : not r ≡ false) where
     lines-even : length kinds ≡ length lengths
     lines-even = given-some kinds lengths (leb-true 1 (length (linesGiven kinds lengths)) (both-left _ _ (sym e ∙ not-false r t)))
 
-    pub lines-few : length lengths ≤ 16
+    pub lines-few : length lengths ≤ mostLines
     lines-few =
         let right = both-left _ _ (both-right (leb 1 (length (linesGiven kinds lengths))) _ (sym e ∙ not-false r t)) in
-        let few = leb-true (length (linesGiven kinds lengths)) 16 right in
+        let few = leb-true (length (linesGiven kinds lengths)) mostLines right in
         let even = lines-even in
         let counted = given-counted kinds lengths even in
         omega arith
@@ -132,7 +133,7 @@ module _ (lengths bodies : List ℕ) (r : Bool) (e : r ≡ eqb (total lengths) (
   pub lengths-differ : not r ≡ true → LengthsJudged lengths bodies false
   lengths-differ t kinds even = rw (given-total kinds lengths even, sym e ∙ not-true r t)
 
-  pub lengths-within : (n : ℕ) → not r ≡ false → n ≡ linePlace (length lengths) + length bodies → LengthsJudged lengths bodies (leb n 4096)
+  pub lengths-within : (n : ℕ) → not r ≡ false → n ≡ linePlace (length lengths) + length bodies → LengthsJudged lengths bodies (leb n largestImage)
   lengths-within n t f kinds even = rw (given-total kinds lengths even, sym e ∙ not-false r t, given-counted kinds lengths even, even, f)
 
 -- ---- the verdict
@@ -167,10 +168,10 @@ module _ (kinds lengths bodies : List ℕ) (size : ℕ) (v : Verdict) (lines : B
 -- for a buffer of `size` bytes
 pub record Buildable (kinds lengths bodies : List ℕ) (size : ℕ) : Type 0 where
   pub even : length kinds ≡ length lengths
-  pub few : length kinds ≤ 16
+  pub few : length kinds ≤ mostLines
   pub small : (i : ℕ) → getD kinds i 0 ≤ 255
   pub whole : total lengths ≡ length bodies
-  pub limit : linePlace (length kinds) + length bodies ≤ 4096
+  pub limit : linePlace (length kinds) + length bodies ≤ largestImage
   pub room : linePlace (length kinds) + length bodies ≤ size
 
 pub buildable : (kinds lengths bodies : List ℕ) (size : ℕ) (v : Verdict) → v ≡ buildVerdict size (linesGiven kinds lengths) bodies → v ≡ Accepted

@@ -10,20 +10,13 @@ use lib.ListN.{length, drop, getD, length-append, length-map, drop-of-length-le}
 use lib.Seq.{drop-cons}
 use Rattle.laws.specs.Cases.{decide}
 use Rattle.laws.specs.Sums.{total}
-use Rattle.refusals.specs.Refusals.{refusal, refused}
 use Rattle.builder.specs.declared.KindAndLength.{KindAndLength}
-use Rattle.builder.specs.Build.{lengthsTotal, buildVerdict, buildImage}
+use Rattle.builder.specs.Build.{lengthsTotal}
 use Rattle.builder.specs.Lines.{paired, linesGiven, kindsOf, lengthsOf, noLine}
 
 pub given-uneven : (kinds lengths : List ℕ) → (length kinds ≡ length lengths → ⊥) → linesGiven kinds lengths ≡ []
 unfolding linesGiven
 given-uneven kinds lengths n = rw (ne-eqb (length kinds) (length lengths) n)
-
--- So lists that are not equally many are refused 18, whatever the bodies and the buffer.
-pub uneven-refused : (kinds lengths : List ℕ) (size : ℕ) (bodies : List ℕ) → (length kinds ≡ length lengths → ⊥)
-    → buildImage size (linesGiven kinds lengths) bodies ≡ refused (refusal 18 0)
-unfolding buildImage buildVerdict
-uneven-refused kinds lengths size bodies n = rw (given-uneven kinds lengths n)
 
 -- ---- equally many
 

@@ -1,12 +1,11 @@
--- Lines and bodies: the lines that two lists of numbers give, the lines that a list of sections is built from, and the body that a line is given.
+-- The lines that two lists of numbers give, and those that a list of sections is built from.
 use mathlib.Core.Bool.{cond}
 use mathlib.Core.List.{List, [], _∷_, map}
 use Prim.Native.Nat.{ℕ}
 use lib.Dec.{eqb}
-use lib.ListN.{length, take, drop, getD}
+use lib.ListN.{length}
 use Rattle.image.specs.Sections.{Section}
 use Rattle.builder.specs.declared.KindAndLength.{KindAndLength}
-use Rattle.builder.specs.Build.{lengthsTotal}
 
 -- a line for each kind and its length, as far as both lists go
 unfoldable pub paired : (kinds lengths : List ℕ) → List KindAndLength
@@ -32,7 +31,3 @@ linesOf (s ∷ ss) = record { kind = s .kind; length = length (s .body) } ∷ li
 -- the line past the last
 abbrev pub noLine : KindAndLength
 noLine = record { kind = 0; length = 0 }
-
--- the body of line i begins where those of the lines before it end
-abbrev pub bodyGiven : List KindAndLength → (bodies : List ℕ) → (i : ℕ) → List ℕ
-bodyGiven lines bodies i = take (getD lines i noLine .length) (drop (lengthsTotal (take i lines)) bodies)

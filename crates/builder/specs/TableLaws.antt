@@ -7,6 +7,7 @@ use native.Mathlib.Omega.{arith}
 use borrow.Author.Tests.{le-leb, lt-leb}
 use lib.ListN.{length, take, set}
 use lib.Seq.{take-suc-set, take-all, length-take-le}
+use Rattle.limits.specs.Limits.{mostLines}
 use Rattle.laws.specs.Cases.{split}
 use Rattle.refusals.specs.declared.Filled.{Filled}
 use Rattle.builder.specs.declared.KindAndLength.{KindAndLength}
@@ -84,8 +85,8 @@ looked-at-decide size lines bodies =
     (λ (h : 17 < length lines).
     let taken = length-take-le 17 lines (omega arith) in
     let some : 1 ≤ length lines = omega arith in
-    let many : 16 < length lines = omega arith in
-    rw (taken, le-leb 1 (length lines) some, lt-leb (length lines) 16 many))
+    let many : mostLines < length lines = omega arith in
+    rw (taken, le-leb 1 (length lines) some, lt-leb (length lines) mostLines many))
 
 -- the places that hold lines
 module _ (places : List ℕ) (count n : ℕ) (h : length places ≡ 17) (e : n ≡ min count 17) where

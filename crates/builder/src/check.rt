@@ -3,6 +3,7 @@ ghost use mathlib.Core.Path.{_≡_};
 ghost use Prim.Native.Nat.{_+_, _≤_};
 ghost use lib.Dec.{eqb};
 ghost use lib.ListN.{length};
+ghost use Rattle.limits.specs.Limits.{mostLines};
 ghost use Rattle.laws.specs.Sums.{total};
 ghost use Rattle.image.specs.Contents.{linePlace};
 ghost use Rattle.builder.specs.Build.{buildVerdict};
@@ -69,7 +70,7 @@ fn lengths_add_up(lengths: &[usize], bytes: usize) -> bool
 }
 
 fn image_length(count: usize, bodies: &[u8]) -> usize
-    requires { ⌜ count ≤ 16 ⌝ }
+    requires { ⌜ count ≤ mostLines ⌝ }
     ensures { λ r. ⌜ r ≡ linePlace count + length (now (bodies .entry)) ⌝ }
 {
     HEAD_SIZE + LINE_SIZE * count + bodies.len()
@@ -77,7 +78,7 @@ fn image_length(count: usize, bodies: &[u8]) -> usize
 
 // Whether 19 is not given, whatever the kinds.
 fn lengths_right(lengths: &[usize], bodies: &[u8]) -> bool
-    requires { ⌜ length (now lengths) ≤ 16 ⌝ }
+    requires { ⌜ length (now lengths) ≤ mostLines ⌝ }
     ensures { λ r. ⌜ LengthsJudged (now (lengths .entry)) (now (bodies .entry)) r ⌝ }
 {
     if !lengths_add_up(lengths, bodies.len()) {

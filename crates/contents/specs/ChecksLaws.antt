@@ -7,6 +7,7 @@ use native.Mathlib.Nat.{sub-zero}
 use native.Mathlib.Omega.{arith}
 use borrow.Author.Tests.{lt-ltb, le-ltb, eq-eqb, ne-eqb, not-true, not-false}
 use lib.Dec.{leb, eqb}
+use Rattle.limits.specs.Limits.{largestImage}
 use Rattle.laws.specs.Bytes.{Bytes}
 use Rattle.laws.specs.Loops.{one-left, none-left}
 use Rattle.numbers.specs.Fields.{numberAt}
@@ -28,7 +29,7 @@ module _ (size : ℕ) (contents : List ℕ) where
     start-wrong : (StartRight size contents → ⊥) → r ≡ startVerdict size contents
     unfolding startVerdict
     start-wrong f =
-        let sized = leb 2 size && leb size 4096 in
+        let sized = leb 2 size && leb size largestImage in
         let marked = eqb (numberAt 1 contents 0) 0x51 in
         let both = both-asked sized marked 5 0 in
         e ∙ sym (both ∙ ask-unpassed (sized && marked) 5 0 (λ p. f (start-passed size contents (both ∙ p))))
@@ -36,13 +37,13 @@ module _ (size : ℕ) (contents : List ℕ) where
     pub too-short : size < 2 → r ≡ startVerdict size contents
     too-short h = start-wrong (λ (s : StartRight size contents). omega arith)
 
-    pub too-long : 4096 < size → r ≡ startVerdict size contents
+    pub too-long : largestImage < size → r ≡ startVerdict size contents
     too-long h = start-wrong (λ (s : StartRight size contents). omega arith)
 
     pub unmarked : (first : ℕ) → first ≡ numberAt 1 contents 0 → (first ≡ 0x51 → ⊥) → r ≡ startVerdict size contents
     unmarked first f n = start-wrong (λ (s : StartRight size contents). n (f ∙ s .marked))
 
-  pub start-right : (first : ℕ) → 2 ≤ size → size ≤ 4096 → first ≡ numberAt 1 contents 0 → first ≡ 0x51 → Accepted ≡ startVerdict size contents
+  pub start-right : (first : ℕ) → 2 ≤ size → size ≤ largestImage → first ≡ numberAt 1 contents 0 → first ≡ 0x51 → Accepted ≡ startVerdict size contents
   start-right first h k f m = sym (start-passes size contents (record { enough = h; most = k; marked = sym f ∙ m }))
 
 -- ---- 6

@@ -79,13 +79,13 @@ pub fn line_at(image: &[u8], line: usize) -> ContentsLine
 pub fn contents_verdict(contents: &[u8], size: usize) -> Verdict
     ensures { λ r. ⌜ r ≡ contentsVerdict size (now (contents .entry)) ⌝ }
 {
-    let start = checks::start_verdict(contents, size);
-    let Verdict::Accepted = start else {
-        return start;
+    let start_judged = checks::start_verdict(contents, size);
+    let Verdict::Accepted = start_judged else {
+        return start_judged;
     };
-    let count = checks::count_verdict(contents, size);
-    let Verdict::Accepted = count else {
-        return count;
+    let count_judged = checks::count_verdict(contents, size);
+    let Verdict::Accepted = count_judged else {
+        return count_judged;
     };
     checks::lines_verdict(contents, size)
 }

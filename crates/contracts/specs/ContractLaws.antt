@@ -33,7 +33,7 @@ module _ {outcome : Outcome} {before after after′ : List ℕ} where
   fills f g = (determined (f .answers) (g .answers), determined (f .holds) (g .holds))
 
   pub fills-for-c : {r r′ : FilledForC} → FillsForC outcome before r after → FillsForC outcome before r′ after′ → (r ≡ r′) × (after ≡ after′)
-  fills-for-c f g = (determined (f .tells) (g .tells), determined (f .holds) (g .holds))
+  fills-for-c f g = (determined (f .answers) (g .answers), determined (f .holds) (g .holds))
 
 -- The buffer is the first argument, or one of the next.
 pub first : {A N : Type 0} {none : N} {l l′ : List ℕ} → A × (l ≡ l′) → A × (_≡_ {A = List ℕ × N} (l, none) (l′, none))

@@ -1,4 +1,4 @@
--- Laws of a place as C gets it: each case told, and a place told that is known by a definition.
+-- Laws of a place as C gets it: each case, and a place that a definition gives.
 use mathlib.Core.Bool.{true, false}
 use mathlib.Core.Path.{_≡_, ap, _∙_}
 use Prim.Native.Nat.{ℕ}
@@ -14,5 +14,5 @@ module _ {place : Place} where
   pub for-c-nowhere : place ≡ Nowhere → record { there = false; offset = 0; length = 0 } ≡ placeForC place
   for-c-nowhere e = rw e
 
-pub told-place : {place said : Place} {r : PlaceForC} → place ≡ said → r ≡ placeForC place → r ≡ placeForC said
-told-place e f = f ∙ ap placeForC e
+pub place-for-c : {place said : Place} {r : PlaceForC} → place ≡ said → r ≡ placeForC place → r ≡ placeForC said
+place-for-c e f = f ∙ ap placeForC e

@@ -15,8 +15,8 @@ use Rattle.refusals.specs.declared.Filled.{Filled}
 use Rattle.refusals.specs.declared.Filled.the-variants.{Length}
 use Rattle.refusals.specs.Refusals.{result, Fills}
 use Rattle.hextext.specs.Text.{readText}
-use Rattle.hextext.specs.Written.{recordText, textOf, textLength, writeImage}
-use Rattle.hextext.specs.WrittenLaws.{length-textOf, length-recordText, textLength-full, textLength-rest}
+use Rattle.hextext.specs.Written.{textOf, textLength, writeImage}
+use Rattle.hextext.specs.WrittenLaws.{length-textOf, textLength-full, textLength-rest}
 use Rattle.hexformat.specs.Format.{GoodText, none}
 use Rattle.hexformat.specs.Agrees.{read-exactly}
 use Rattle.hexformat.specs.GoodTexts.{image-is-bytes}
@@ -83,10 +83,6 @@ there-and-back image text text′ buffer buffer′ n answer b writes reads h =
     (rw r at (reads .answers), rw r at (reads .holds))
 
 -- ---- how long the text is
-
--- a record of r bytes takes 12 + 2 r characters, so a full one of 16 takes 44, and the end 12
-pub record-length : (address type : ℕ) (contents : List ℕ) → length (recordText address type contents) ≡ 12 + 2 * length contents
-record-length = length-recordText
 
 -- the text of an image is as long as is said before it is written
 pub text-length : (image : List ℕ) → length (textOf image) ≡ textLength (length image)

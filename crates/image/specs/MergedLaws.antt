@@ -8,6 +8,7 @@ use native.Mathlib.Omega.{arith}
 use borrow.Author.Tests.{ltb-true, ltb-false, eqb-true, eqb-false, eq-eqb}
 use lib.Dec.{ltb, eqb}
 use lib.ListN.{length, length-append}
+use Rattle.limits.specs.Limits.{largestImage}
 use Rattle.laws.specs.Cases.{decide, never}
 use Rattle.image.specs.Contents.{linePlace}
 use Rattle.image.specs.Sections.{Section, bodiesOf, Rising, Fit}
@@ -55,11 +56,6 @@ body-inserted kind x (s ∷ ss) other =
     decide (ltb (x .kind) (s .kind))
     (λ e. rw (e, other))
     (λ e. rw e (ap (λ (o : Option (List ℕ)). cond (eqb kind (s .kind)) (some (s .body)) o) (body-inserted kind x ss other)))
-
-pub body-merged : (kind : ℕ) (ss further : List Section) → EachKind (λ other. eqb kind other ≡ false) further → bodyOf kind (merged ss further) ≡ bodyOf kind ss
-unfolding merged
-body-merged kind ss [] others = refl
-body-merged kind ss (x ∷ further) others = body-inserted kind x (merged ss further) (others .0) ∙ body-merged kind ss further (others .1)
 
 -- ---- each further section has its own body
 
@@ -136,7 +132,7 @@ bodies-merged ss (x ∷ further) =
 
 module _ (ss further : List Section) (fit : Fit ss) (kinds : EachKind IsKind further) (once : EachOnce further)
     (new : EachKind (λ kind. holds kind ss ≡ false) further) (few : length ss + length further ≤ 16)
-    (room : linePlace (length ss + length further) + (length (bodiesOf ss) + length (bodiesOf further)) ≤ 4096) where
+    (room : linePlace (length ss + length further) + (length (bodiesOf ss) + length (bodiesOf further)) ≤ largestImage) where
   pub merged-fit : Fit (merged ss further)
   merged-fit =
       let count = length-merged ss further in

@@ -11,7 +11,7 @@ use Rattle.laws.specs.Cases.{split}
 use Rattle.refusals.specs.declared.Verdict.the-variants.{Accepted}
 use Rattle.image.specs.Contents.{lineCount, linePlace, kindAt, lengthAt, linesVerdict}
 use Rattle.image.specs.Layout.{layoutVerdict}
-use Rattle.image.specs.Sections.{Section, sectionsFrom, sections, Rising}
+use Rattle.image.specs.Sections.{Section, sectionsFrom, sections}
 use Rattle.image.specs.Find.{bodyOf}
 use Rattle.image.specs.ContentsLaws.{line-passed}
 use Rattle.image.specs.LayoutLaws.{layout-passed}
@@ -20,10 +20,6 @@ use Rattle.image.specs.LayoutLaws.{layout-passed}
 abbrev pub Ascending : (previous : ℕ) → List Section → Type 0
 Ascending previous [] = Unit {0}
 Ascending previous (s ∷ ss) = (previous < s .kind) × Ascending (s .kind) ss
-
-pub rising-ascends : (previous : ℕ) (ss : List Section) → Rising previous ss → Ascending previous ss
-rising-ascends previous [] rising = tt
-rising-ascends previous (s ∷ ss) rising = (rising .0, rising-ascends (s .kind) ss (rising .2))
 
 lines-ascend : (size : ℕ) (image : List ℕ) (left i previous offset : ℕ) → linesVerdict size image left i previous offset ≡ Accepted
     → Ascending previous (sectionsFrom image left i)

@@ -1,6 +1,6 @@
 -- Sections, their image, its sections: the image of fit sections has a good layout, and its sections are those given.
 use mathlib.Core.List.{List, [], _∷_, _++_}
-use mathlib.Core.Path.{_≡_, refl, sym, ap, _∙_}
+use mathlib.Core.Path.{_≡_, refl, ap}
 use Prim.Native.Nat.{ℕ, _+_, _*_, _/_, _%_, _≤_, _<_}
 use native.Mathlib.Nat.{zero-add}
 use native.Mathlib.Omega.{arith}
@@ -166,7 +166,3 @@ image-bytes ss fit b =
     (bytes-cons (length ss) (contentsFrom (linePlace (length ss)) ss) (omega (arith, fit .few))
     (bytes-contents (linePlace (length ss)) 0 ss (fit .rising) (omega (arith, fit .room)))))
     b
-
--- no two lists of sections have the same image
-pub same-image : (ss ts : List Section) → imageOf ss ≡ imageOf ts → ss ≡ ts
-same-image ss ts e = sym (sections-of-image ss) ∙ ap sections e ∙ sections-of-image ts

@@ -37,6 +37,9 @@ pub const PRESCALE_ALGORITHM: u8 = 1;
 
 pub const HIGHEST_ORDER: u8 = 4;
 
+// rows of a grid, and places of a row: one for each order from 0 on
+pub const GRID_SIZE: usize = HIGHEST_ORDER as usize + 1;
+
 // 2^30
 pub const LARGEST_MULTIPLIER: u64 = 1073741824;
 

@@ -1,12 +1,12 @@
 -- The levels of panels, and the kinds that each knows.
-use mathlib.Core.Bool.{Bool, false, cond, _||_}
+use mathlib.Core.Bool.{Bool, false, cond, _&&_, _||_}
 use mathlib.Core.List.{List, [], _∷_}
 use Prim.Native.Nat.{ℕ}
 use lib.Dec.{leb, eqb}
+use Rattle.limits.specs.Limits.{lastLevel}
 
--- a level is 1 or 2
 abbrev pub isLevel : (level : ℕ) → Bool
-isLevel level = eqb level 1 || eqb level 2
+isLevel level = leb 1 level && leb level lastLevel
 
 -- level 1 knows kinds 1, 2, 3; level 2 also knows 4 and 129
 abbrev pub kindsOfLevel : (level : ℕ) → List ℕ

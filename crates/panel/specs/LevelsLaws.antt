@@ -4,17 +4,7 @@ use mathlib.Core.Bool.{Bool, true, false, _||_, or-false, true≢false, false≢
 use Prim.Native.Nat.{ℕ}
 use borrow.Author.Tests.{eq-eqb, ne-eqb}
 use lib.Dec.{leb, eqb}
-use Rattle.panel.specs.Levels.{isLevel, knows, mayPass}
-
--- ---- a level
-
-pub level-one : (level : ℕ) → level ≡ 1 → true ≡ isLevel level
-level-one level e = rw (eq-eqb level 1 e)
-
-pub level-two : (level : ℕ) → (level ≡ 1 → ⊥) → eqb level 2 ≡ isLevel level
-level-two level n = rw (ne-eqb level 1 n)
-
--- ---- a kind
+use Rattle.panel.specs.Levels.{knows, mayPass}
 
 module _ (kind : ℕ) where
   pub kind-one : kind ≡ 1 → true ≡ knows 1 kind

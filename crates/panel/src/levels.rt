@@ -5,10 +5,7 @@ ghost use Rattle.panel.specs.Levels.{isLevel, knows as knowsKind, mayPas
 pub fn is_level(level: u32) -> bool
     ensures { λ r. ⌜ r ≡ isLevel level ⌝ }
 {
-    if level == 1 {
-        return true;
-    }
-    level == 2
+    1 <= level && level <= limits::LAST_LEVEL
 }
 
 fn first_three(kind: u32) -> bool

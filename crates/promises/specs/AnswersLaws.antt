@@ -84,8 +84,8 @@ module _ (o : Outcome) {R : (number detail : ℕ) → Type 0} {P : List ℕ → 
       by (is-refused r) e = let given = refuses r e in rw (f .answers, e) (refused (given .0) (given .1) refl (rw e at (f .holds)))
       by (result x) e = rw (f .answers, e) (filled x (results x e) refl refl refl (rw e at (f .holds)))
 
-  pub told-answer : (told : FilledForC) → FillsForC o before told after → Fills R P before (told .number) (told .detail) (told .length) after
-  told-answer told f = rw (f .tells) (fills-answer (answerTo o) (record { answers = refl; holds = f .holds }))
+  pub fills-for-c-answer : (r : FilledForC) → FillsForC o before r after → Fills R P before (r .number) (r .detail) (r .length) after
+  fills-for-c-answer r f = rw (f .answers) (fills-answer (answerTo o) (record { answers = refl; holds = f .holds }))
 
 module _ (size : ℕ) (text : List ℕ) where
   pub read-refuses : (r : Refusal) → readText size text ≡ is-refused r → (1 ≤ r .number) × Refuses (min 4096 size) text (r .number) (r .detail)

@@ -53,7 +53,7 @@ use Rattle.agreement.specs.BodiesAgree.{identity-judges, set-judges, trim-judge
 use Rattle.agreement.specs.VerdictAgrees.{verdict-gives}
 use Rattle.agreement.specs.OnPaper.{onPaper}
 use Rattle.promises.specs.Answers.{AnswersRead, AnswersWrite, kindsLent, lengthsLent, AnswersBuild, AnswersLoad, AnswersFind, FindsPart, AnswersReading}
-use Rattle.promises.specs.AnswersLaws.{verdict-tells, fills-answer, told-answer, read-refuses, read-results, write-refuses, write-results, build-refuses, build-results, kinds-lent, lengths-lent, load-refuses, load-results, find-answer, finds-part, has-answer, reading-answer}
+use Rattle.promises.specs.AnswersLaws.{verdict-tells, fills-answer, fills-for-c-answer, read-refuses, read-results, write-refuses, write-results, build-refuses, build-results, kinds-lent, lengths-lent, load-refuses, load-results, find-answer, finds-part, has-answer, reading-answer}
 use Rattle.promises.specs.ZerosLaws.{refused-zeros, part-starts, zeros-refused}
 
 -- ---- every text
@@ -71,7 +71,7 @@ pub bjorkneve-read-answers : EveryCall bjorkneve.bjorkneve_read.ended bjorkneve.
 bjorkneve-read-answers call r b learnt =
     let text = now (call .arguments .0) in
     let before = now (call .arguments .1 .0) in
-    told-answer (readText (length before) text) (read-refuses (length before) text) (read-results (length before) text) before (b .1 .0) r learnt
+    fills-for-c-answer (readText (length before) text) (read-refuses (length before) text) (read-results (length before) text) before (b .1 .0) r learnt
 
 -- A load answers the image that the text says and the panel accepts, or the text's refusal, or the panel's on that image.
 pub load-answers : EveryCall panel.load.ended panel.load.Reads.Learnt
@@ -92,7 +92,7 @@ bjorkneve-load-answers call r b learnt =
     let text = now (call .arguments .0) in
     let level = call .arguments .1 .0 in
     let before = now (call .arguments .1 .1 .0) in
-    told-answer (loadText level (length before) text) (load-refuses level text before) (load-results level text before) before (b .1 .1 .0) r learnt
+    fills-for-c-answer (loadText level (length before) text) (load-refuses level text before) (load-results level text before) before (b .1 .1 .0) r learnt
 
 -- ---- every image
 
@@ -110,7 +110,7 @@ pub bjorkneve-write-answers : EveryCall bjorkneve.bjorkneve_write.ended bjorknev
 bjorkneve-write-answers call r b learnt =
     let image = now (call .arguments .0) in
     let before = now (call .arguments .1 .0) in
-    told-answer (writeImage (length before) image) (write-refuses (length before) image)
+    fills-for-c-answer (writeImage (length before) image) (write-refuses (length before) image)
     (write-results (length before) image (lent-bytes call (shared 0 tt))) before (b .1 .0) r learnt
 
 -- A layout is good, or refused by the first of 5 to 8.
@@ -226,7 +226,7 @@ bjorkneve-build-answers call r b learnt =
     let lengths = now (call .arguments .1 .0) in
     let bodies = now (call .arguments .1 .1 .0) in
     let before = now (call .arguments .1 .1 .1 .0) in
-    told-answer (buildImage (length before) (linesGiven kinds lengths) bodies) (build-refuses (length before) kinds lengths bodies)
+    fills-for-c-answer (buildImage (length before) (linesGiven kinds lengths) bodies) (build-refuses (length before) kinds lengths bodies)
     (build-results (length before) kinds lengths bodies (lent-bytes call (next (next (shared 2 tt))))) before (b .1 .1 .1 .0) r learnt
 
 -- ---- every count

@@ -65,16 +65,16 @@ module _ (level : ℕ) (image : List ℕ) (further : List Section) (anew : List 
     low-reading counts = rw low-verdict
 
     -- In the numbers that C gets: 9, that kind, and every value 0.
-    pub low-told : (counts : Counts)
+    pub low-for-c : (counts : Counts)
         → (verdictForC (verdictOf level anew) ≡ record { number = 9; detail = kind })
         × (answerForC (readingOf level anew counts) ≡ record { number = 9; detail = kind; pressure = pos 0; temperature = pos 0; unit = 0; mark = 0 })
-    low-told counts = (ap verdictForC low-verdict, ap answerForC (low-reading counts))
+    low-for-c counts = (ap verdictForC low-verdict, ap answerForC (low-reading counts))
 
   -- If all are 128 or above, C gets the same numbers as before.
-  pub high-told : AllHigh further → (counts : Counts)
+  pub high-for-c : AllHigh further → (counts : Counts)
       → (verdictForC (verdictOf level anew) ≡ verdictForC (verdictOf level image))
       × (answerForC (readingOf level anew counts) ≡ answerForC (readingOf level image counts))
-  high-told high counts = (ap verdictForC (high-verdict high), ap answerForC (high-reading high counts))
+  high-for-c high counts = (ap verdictForC (high-verdict high), ap answerForC (high-reading high counts))
 
 -- There is no third case: all new kinds are 128 or above, or there is a lowest below 128.
 pub high-or-low : (further : List Section) → AllHigh further ⊎ ((kind : ℕ) × LowestLow further kind)
@@ -164,8 +164,8 @@ module _ (image : List ℕ) (counts : Counts) (reading : Reading) (shown : readi
   )
 
   -- In the numbers that C gets: the same as level 2's, or 9, 4 and every value 0.
-  pub levels-told : (answerForC (readingOf 1 image counts) ≡ answerForC (readingOf 2 image counts))
+  pub levels-for-c : (answerForC (readingOf 1 image counts) ≡ answerForC (readingOf 2 image counts))
       ⊎ (HasKind image 4
       × (answerForC (readingOf 1 image counts) ≡ record { number = 9; detail = 4; pressure = pos 0; temperature = pos 0; unit = 0; mark = 0 }))
-  levels-told =
+  levels-for-c =
       ⊎-elim (λ there. inr (there, ap answerForC (with-trim there))) (λ absent. inl (ap answerForC (without-trim absent ∙ sym shown))) trim-there

@@ -151,28 +151,28 @@ counted pressureNS pressureNR temperatureNS temperatureNR =
     }
 
 -- the counts, the pressure with the trim in bar and without it in psi, the temperature, and the mark
-pub record Row : Type 0 where
+pub record WorkedReading : Type 0 where
   pub counts : Counts
   pub bar : ℤ
   pub psi : ℤ
   pub temperature : ℤ
   pub mark : ℕ
 
-abbrev pub shows : Counts → (bar psi temperature : ℤ) → (mark : ℕ) → Row
+abbrev pub shows : Counts → (bar psi temperature : ℤ) → (mark : ℕ) → WorkedReading
 shows counts bar psi temperature mark = record { counts = counts; bar = bar; psi = psi; temperature = temperature; mark = mark }
 
 -- level 2 shows the one of the worked image, level 1 the other of the image without its trim
-abbrev pub Shown2 : Row → Type 0
+abbrev pub Shown2 : WorkedReading → Type 0
 Shown2 r = readingOf 2 workedImage (r .counts) ≡ Shown (record { pressure = r .bar; temperature = r .temperature; unit = 2; mark = r .mark })
 
-abbrev pub Shown1 : Row → Type 0
+abbrev pub Shown1 : WorkedReading → Type 0
 Shown1 r = readingOf 1 untrimmedImage (r .counts) ≡ Shown (record { pressure = r .psi; temperature = r .temperature; unit = 1; mark = r .mark })
 
 abbrev pub Each : {A : Type 0} → (A → Type 0) → List A → Type 0
 Each P [] = Unit {0}
 Each P (a ∷ l) = P a × Each P l
 
-abbrev pub readings : List Row
+abbrev pub readings : List WorkedReading
 readings =
     -- inside: inside all limits; 326.446 bar, 4,748.557 psi, 73.706 °C
     shows (counted 40000 7003827 66600 7247344) (pos 21393939) (pos 311201430) (pos 4830423) 0

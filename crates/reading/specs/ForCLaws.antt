@@ -1,4 +1,4 @@
--- Laws of an answer as C gets it: each case told, and an answer told that is known by a definition.
+-- Laws of an answer as C gets it: each case, and an answer that a definition gives.
 use lib.IntN.{pos}
 use mathlib.Core.Path.{_≡_, ap, _∙_}
 use Rattle.refusals.specs.declared.Refusal.{Refusal}
@@ -17,5 +17,5 @@ module _ {answer : Answer} where
       → record { number = r .number; detail = r .detail; pressure = pos 0; temperature = pos 0; unit = 0; mark = 0 } ≡ answerForC answer
   for-c-refused r e = rw e
 
-pub told-answer : {answer said : Answer} {r : AnswerForC} → answer ≡ said → r ≡ answerForC answer → r ≡ answerForC said
-told-answer e f = f ∙ ap answerForC e
+pub answer-for-c : {answer said : Answer} {r : AnswerForC} → answer ≡ said → r ≡ answerForC answer → r ≡ answerForC said
+answer-for-c e f = f ∙ ap answerForC e

@@ -2,6 +2,7 @@
 use crate::frequency::prescaled;
 use crate::value::Value;
 use crate::value::limited;
+use limits::GRID_SIZE;
 use sets::Prescale;
 ghost use mathlib.Core.Path.{_≡_};
 ghost use mathlib.Core.Bool.{true};
@@ -24,12 +25,12 @@ fn step(kind: u64, x: i64, coefficient: i64, sum: i64) -> Value
     limited(limits::LARGEST_SUM, 25, kind, next)
 }
 
-fn row_sum(kind: u64, x: i64, row: [i64; 5]) -> Value
+fn row_sum(kind: u64, x: i64, row: [i64; GRID_SIZE]) -> Value
     requires { ⌜ natAbs x ≤ largestX ⌝ }
     ensures { λ r. ⌜ r ≡ rowSum kind x row ⌝ }
 {
     let mut sum: i64 = 0;
-    let mut i: usize = 5;
+    let mut i: usize = GRID_SIZE;
     while 0 < i {
         i -= 1;
         match step(kind, x, row[i], sum) {
@@ -44,10 +45,10 @@ fn row_sum(kind: u64, x: i64, row: [i64; 5]) -> Value
     Value::Known(sum)
 }
 
-fn is_zero(row: [i64; 5]) -> bool
+fn is_zero(row: [i64; GRID_SIZE]) -> bool
     ensures { λ r. ⌜ (r ≡ true → row ≡ replicate 5 (pos 0)) ⌝ }
 {
-    let mut place: usize = 5;
+    let mut place: usize = GRID_SIZE;
     while 0 < place {
         place -= 1;
         if row[place] != 0 {
@@ -58,7 +59,7 @@ fn is_zero(row: [i64; 5]) -> bool
 }
 
 // One step of the rows' running sum: a row's own sum is the coefficient.
-fn row_step(kind: u64, xp: i64, xt: i64, row: [i64; 5], sum: i64) -> Value
+fn row_step(kind: u64, xp: i64, xt: i64, row: [i64; GRID_SIZE], sum: i64) -> Value
     requires { ⌜ (natAbs xp ≤ largestX) × (natAbs xt ≤ largestX) × (natAbs sum ≤ largestSum) ⌝ }
     ensures { λ r. ⌜ r ≡ rowStep kind xp xt row sum ⌝ }
 {
@@ -74,12 +75,12 @@ fn row_step(kind: u64, xp: i64, xt: i64, row: [i64; 5], sum: i64) -> Value
     }
 }
 
-fn grid_sum(kind: u64, xp: i64, xt: i64, grid: [[i64; 5]; 5]) -> Value
+fn grid_sum(kind: u64, xp: i64, xt: i64, grid: [[i64; GRID_SIZE]; GRID_SIZE]) -> Value
     requires { ⌜ (natAbs xp ≤ largestX) × (natAbs xt ≤ largestX) ⌝ }
     ensures { λ r. ⌜ r ≡ gridSum kind xp xt grid ⌝ }
 {
     let mut sum: i64 = 0;
-    let mut i: usize = 5;
+    let mut i: usize = GRID_SIZE;
     while 0 < i {
         i -= 1;
         let row = grid[i];
@@ -95,7 +96,7 @@ fn grid_sum(kind: u64, xp: i64, xt: i64, grid: [[i64; 5]; 5]) -> Value
     Value::Known(sum)
 }
 
-fn grid_result(kind: u64, xp: i64, xt: i64, grid: [[i64; 5]; 5]) -> Value
+fn grid_result(kind: u64, xp: i64, xt: i64, grid: [[i64; GRID_SIZE]; GRID_SIZE]) -> Value
     requires { ⌜ (natAbs xp ≤ largestX) × (natAbs xt ≤ largestX) ⌝ }
     ensures { λ r. ⌜ r ≡ gridResult kind xp xt grid ⌝ }
 {
@@ -111,7 +112,7 @@ fn result_from_xp(
     xp: i64,
     scale: Prescale,
     temperature: i64,
-    grid: [[i64; 5]; 5],
+    grid: [[i64; GRID_SIZE]; GRID_SIZE],
 ) -> Value
     requires { ⌜ (natAbs xp ≤ largestX) × (natAbs temperature ≤ highestFrequency) ⌝ }
     ensures { λ r. ⌜ r ≡ resultFromXp kind detail xp scale temperature grid ⌝ }

@@ -17,6 +17,6 @@ abbrev pub filledForC : Filled → FilledForC
 filledForC filled = record { number = filledNumber filled; detail = filledDetail filled; length = filledLength filled }
 
 -- `Fills`, with the answer as C gets it
-pub record FillsForC (outcome : Outcome) (before : List ℕ) (told : FilledForC) (after : List ℕ) : Type 0 where
-  pub tells : told ≡ filledForC (answerTo outcome)
+pub record FillsForC (outcome : Outcome) (before : List ℕ) (answer : FilledForC) (after : List ℕ) : Type 0 where
+  pub answers : answer ≡ filledForC (answerTo outcome)
   pub holds : after ≡ heldAfter (length before) outcome

@@ -26,9 +26,9 @@ module _ {f : Filled} where
   pub for-c-unfilled : (r : Refusal) → f ≡ NotFilled r → record { number = r .number; detail = r .detail; length = 0 } ≡ filledForC f
   for-c-unfilled r e = rw e
 
-pub told-verdict : {v said : Verdict} {r : VerdictForC} → v ≡ said → r ≡ verdictForC v → r ≡ verdictForC said
-told-verdict e f = f ∙ ap verdictForC e
+pub verdict-for-c : {v said : Verdict} {r : VerdictForC} → v ≡ said → r ≡ verdictForC v → r ≡ verdictForC said
+verdict-for-c e f = f ∙ ap verdictForC e
 
 pub fills-for-c : {outcome : Outcome} {before after : List ℕ} {answer : Filled} {r : FilledForC} → Fills outcome before answer after → r ≡ filledForC answer
     → FillsForC outcome before r after
-fills-for-c f e = record { tells = e ∙ ap filledForC (f .answers); holds = f .holds }
+fills-for-c f e = record { answers = e ∙ ap filledForC (f .answers); holds = f .holds }

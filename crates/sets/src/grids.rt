@@ -1,6 +1,7 @@
 // The grid of a set: its coefficients in five rows of five.
 use crate::coefficients::coefficient;
 use limits::COEFFICIENT_SIZE;
+use limits::GRID_SIZE;
 use limits::SET_HEAD_SIZE;
 use numbers::fields::number1;
 ghost use mathlib.Core.Path.{_≡_};
@@ -8,17 +9,17 @@ ghost use Prim.Native.Nat.{_<_};
 ghost use Rattle.sets.specs.Set.{gridPlace, rowFrom, gridOf};
 ghost use Rattle.sets.specs.Preconditions.{GridRow};
 
-pub fn read_grid(body: &[u8]) -> [[i64; 5]; 5]
+pub fn read_grid(body: &[u8]) -> [[i64; GRID_SIZE]; GRID_SIZE]
     ensures { λ r. ⌜ r ≡ gridOf (now (body .entry)) ⌝ }
 {
     let rows = number1(body, 2) as usize + 1;
     let places = number1(body, 3) as usize + 1;
-    let mut grid = [[0i64; 5]; 5];
+    let mut grid = [[0i64; GRID_SIZE]; GRID_SIZE];
     if body.len() < SET_HEAD_SIZE + COEFFICIENT_SIZE * (rows * places) {
         return grid;
     }
     let mut row: usize = 0;
-    while row < 5 {
+    while row < GRID_SIZE {
         let coefficients = read_row(body, rows, places, row);
         grid[row] = coefficients;
         row += 1;
@@ -26,13 +27,13 @@ pub fn read_grid(body: &[u8]) -> [[i64; 5]; 5]
     grid
 }
 
-fn read_row(body: &[u8], rows: usize, places: usize, row: usize) -> [i64; 5]
+fn read_row(body: &[u8], rows: usize, places: usize, row: usize) -> [i64; GRID_SIZE]
     requires { ⌜ GridRow (now body) rows places row ⌝ }
     ensures { λ r. ⌜ r ≡ rowFrom (now (body .entry)) row 5 0 ⌝ }
 {
-    let mut coefficients = [0i64; 5];
+    let mut coefficients = [0i64; GRID_SIZE];
     let mut place: usize = 0;
-    while place < 5 {
+    while place < GRID_SIZE {
         let coefficient = read_place(body, rows, places, row, place);
         coefficients[place] = coefficient;
         place += 1;

@@ -1,5 +1,5 @@
 use borrow.Author.Needs.{needs}
-use Rattle.refusals.specs.ForCLaws.{told-verdict}
+use Rattle.refusals.specs.ForCLaws.{verdict-for-c}
 use Rattle.bjorkneve.proofs.bjorkneve_verdict.Statement.{statement}
 use Rattle.bjorkneve.proofs.bjorkneve_verdict.Tie as tie
 
@@ -10,7 +10,7 @@ verdict-for-c-requires : tie.Need-verdict-for-c-requires
 verdict-for-c-requires c κs = search needs
 
 returns : tie.Need-returns
-returns c = search (needs, told-verdict)
+returns c = search (needs, verdict-for-c)
 
 pub bjorkneve-verdict-spec : {M : Type 1} → statement M
 bjorkneve-verdict-spec = tie.close (tie.spec verdict-requires verdict-for-c-requires returns)
