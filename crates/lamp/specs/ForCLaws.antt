@@ -34,5 +34,5 @@ module _ {gauge : Identified} where
       → record { number = r .number; detail = r .detail; serial = 0; year = 0; month = 0; day = 0 } ≡ gaugeForC gauge
   gauge-refused r e = rw e
 
-pub told-gauge : {gauge said : Identified} {r : GaugeForC} → gauge ≡ said → r ≡ gaugeForC gauge → r ≡ gaugeForC said
-told-gauge e f = f ∙ ap gaugeForC e
+pub gauge-for-c : {gauge said : Identified} {r : GaugeForC} → gauge ≡ said → r ≡ gaugeForC gauge → r ≡ gaugeForC said
+gauge-for-c e f = f ∙ ap gaugeForC e

@@ -5,6 +5,7 @@ pub mod History
 pub mod Demand1
 pub mod Demand2
 pub mod Demand3
+pub mod Lamp
 pub mod EndToEnd
 pub mod Starred
 pub mod WorkedReadings

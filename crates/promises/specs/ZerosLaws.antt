@@ -28,7 +28,7 @@ zeros-at zero i = refl
 zeros-at (suc size) zero = refl
 zeros-at (suc size) (suc i) = zeros-at size i
 
-first-taken : (n : ℕ) (l : List ℕ) → getD l 0 0 ≡ 0 → getD (take n l) 0 0 ≡ 0
+pub first-taken : (n : ℕ) (l : List ℕ) → getD l 0 0 ≡ 0 → getD (take n l) 0 0 ≡ 0
 first-taken zero l e = refl
 first-taken (suc n) [] e = e
 first-taken (suc n) (b ∷ l) e = e
