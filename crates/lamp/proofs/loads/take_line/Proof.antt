@@ -3,7 +3,7 @@ use Rattle.lamp.proofs.loads.take_line.Statement.{statement}
 use Rattle.lamp.proofs.loads.take_line.Tie as tie
 use Rattle.lamp.proofs.loads.take_line.Reads as reads
 use Rattle.lamp.proofs.loads.take_line.Lts as lts
-use Rattle.hexread.proofs.take_line.Reads as take-line-reads
+use Rattle.hexlines.proofs.take_line.Reads as take-line-reads
 use Rattle.lamp.proofs.loads.grow.Reads as grow-reads
 use Rattle.lamp.proofs.loads.next_line.Reads as next-line-reads
 use Rattle.lamp.proofs.loads.stopped.Reads as stopped-reads

@@ -1,4 +1,4 @@
--- The pairs of a record's data: whether they are digits, what their bytes add up to, and the image that they are written into.
+-- Pairs of characters written as bytes: whether they are digits, what the bytes add up to, and the buffer that they are written into.
 use mathlib.Core.Path.{_≡_, refl, _∙_}
 use mathlib.Core.Bool.{false}
 use mathlib.Core.List.{List, append-assoc}
