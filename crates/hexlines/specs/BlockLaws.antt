@@ -1,23 +1,23 @@
 -- A data record of 16 bytes at the address that is due, by its characters: what it is judged as, and its data.
-use mathlib.Core.Path.{_≡_, refl, sym, ap, _∙_}
+use mathlib.Core.Path.{_≡_, refl, sym, _∙_}
 use mathlib.Core.Bool.{Bool, true, false, not, _&&_}
 use mathlib.Core.List.{List, [], append-nil}
-use Prim.Native.Nat.{ℕ, suc, _+_, _-_, _*_, _/_, _%_, _≤_, _<_, min, max}
+use Prim.Native.Nat.{ℕ, _+_, _-_, _*_, _/_, _%_, _≤_, _<_, min, max}
 use native.Mathlib.Numerals.{add-one}
 use native.Mathlib.Omega.{arith}
 use borrow.Author.Tests.{eq-eqb, ne-eqb, eqb-true}
 use lib.Dec.{eqb}
 use lib.ListN.{length, take, drop, getD, set, length-set, drop-of-length-le}
-use lib.Seq.{length-take-le, take-take, take-all, getD-take, paste, paste-zero, paste-suc}
+use lib.Seq.{length-take-le, take-take, getD-take, paste, paste-zero, paste-suc}
 use Rattle.limits.specs.Limits.{largestImage}
 use Rattle.laws.specs.Cases.{decide, never, both-left, both-right}
 use Rattle.laws.specs.Sums.{total}
 use Rattle.hextext.specs.declared.Record.{Record}
 use Rattle.hextext.specs.declared.Record.the-variants.{Data}
-use Rattle.hextext.specs.Record.{digit, allDigits, bytesOf, recordBytes, dataOf, formed, summed, lineOf, typed, placed, judge}
+use Rattle.hextext.specs.Record.{digit, allDigits, bytesOf, recordBytes, dataOf, formed, summed, lineOf, placed, judge}
 use Rattle.hextext.specs.RecordLaws.{byteAt, allDigits-end, bytes-total-end, formed-at, recordBytes-head, digit-low}
 use Rattle.hextext.specs.Text.{bare}
-use Rattle.hextext.specs.Lines.{lineInside, lineRecord, lineData}
+use Rattle.hextext.specs.Lines.{lineInside, lineRecord}
 use Rattle.hexline.specs.Line.{nextLine}
 use Rattle.hexline.specs.DigitsLaws.{SpellsByte}
 use Rattle.hexline.specs.PairsLaws.{PairsAddUp, add-up-one, add-up-then}
@@ -38,13 +38,20 @@ length-is line answer w t = when-yes answer w t
 
 -- ---- the data decoded
 
-pub decoding-more : (l d d′ : List ℕ) (s largest i : ℕ) → WritingPairs l 9 16 d d′ 0 s largest i → (high low next larger : ℕ) → 41 ≤ length l → length d ≡ 16 → i < 16
-    → high ≡ digit (getD l (9 + i * 2) 0) → low ≡ digit (getD l (9 + i * 2 + 1) 0)
+pub decoding-more : (l : List ℕ) (from : ℕ) (d d′ : List ℕ) (s largest i : ℕ) → WritingPairs l from 16 d d′ 0 s largest i → (high low next larger : ℕ)
+    → from + 32 ≤ length l → length d ≡ 16 → i < 16
+    → high ≡ digit (getD l (from + i * 2) 0) → low ≡ digit (getD l (from + i * 2 + 1) 0)
     → next ≡ (s + (high % 16 * 16 + low % 16)) % 256 → larger ≡ max largest (max high low)
-    → WritingPairs l 9 16 d (set d′ i (high % 16 * 16 + low % 16)) 0 next larger (i + 1)
-decoding-more l d d′ s largest i h high low next larger long size k p q e f =
+    → WritingPairs l from 16 d (set d′ i (high % 16 * 16 + low % 16)) 0 next larger (i + 1)
+decoding-more l from d d′ s largest i h high low next larger long size k p q e f =
     let z : 0 + i ≡ i = omega arith in
-    rw z at (writing-more l 9 16 d d′ 0 s largest i h high low next larger (omega arith) (omega arith) k p q e f)
+    rw z at (writing-more l from 16 d d′ 0 s largest i h high low next larger long (omega arith) k p q e f)
+
+-- all of them
+pub decoded : (l : List ℕ) (from : ℕ) (d d′ : List ℕ) (s : ℕ) → length d ≡ 16 → PairsWritten l from 16 d d′ 0 s → s < 256 → d′ ≡ take 16 (bytesOf (drop from l))
+decoded l from d d′ s size p small =
+    let none : drop (0 + 16) d ≡ [] = drop-of-length-le d {i = 0 + 16} (omega arith) in
+    p .wrote small ∙ rw none (append-nil (take 16 (bytesOf (drop from l))))
 
 -- ---- spelled
 
@@ -62,13 +69,12 @@ pub block-spelled : (l : List ℕ) (at : ℕ) (d d′ : List ℕ) (s : ℕ) (ans
     → length d ≡ 16 → PairsWritten l 9 16 d d′ 0 s → s < 256
     → When answer (SpellsByte l 41 ((256 - (16 + at / 256 + at % 256 + s) % 256) % 256)) → When answer (BlockSpelled l at d′)
 block-spelled l at d d′ s answer headed w t size p small c =
-    let none : drop (0 + 16) d ≡ [] = drop-of-length-le d {i = 0 + 16} (omega arith) in
     record {
       says = λ q. record {
         head = when-yes headed w t;
         sum = s;
         pairs = p .sum .good small;
-        holds = p .wrote small ∙ rw none (append-nil (take 16 (bytesOf (drop 9 l))));
+        holds = decoded l 9 d d′ s size p small;
         check = (256 - (16 + at / 256 + at % 256 + s) % 256) % 256;
         checks = c .says q;
         adds = omega arith;
@@ -92,7 +98,8 @@ all-mod high low s check =
     let zero : 16 + high + low + 0 ≡ 16 + high + low = omega arith in
     rw (mod-then (16 + high) low, mod-then (16 + high + low) 0, zero, mod-then (16 + high + low) s, mod-then (16 + high + low + s) check)
 
-module _ (l : List ℕ) (at room : ℕ) (bytes : List ℕ) (long : length l ≡ 43) (colon : getD l 0 0 ≡ 58) (b : BlockSpelled l at bytes) (fits : at + 16 ≤ room) where
+module _ (l : List ℕ) (at room : ℕ) (bytes : List ℕ) (long : length l ≡ 43) (colon : getD l 0 0 ≡ 58) (b : BlockSpelled l at bytes)
+    (fits : at + 16 ≤ room) where
   all-pairs : PairsAddUp l 1 21 ((((((16 + at / 256) % 256 + at % 256) % 256 + 0) % 256 + b .sum) % 256 + b .check) % 256)
   all-pairs =
       let one = add-up-one l 1 16 (omega arith) (b .head .count) in
@@ -130,7 +137,8 @@ module _ (l : List ℕ) (at room : ℕ) (bytes : List ℕ) (long : length l ≡ 
         fits = fits;
       }
 
-pub block-read-when : (l : List ℕ) (at room : ℕ) (bytes : List ℕ) (answer roomy : Bool) → length l ≡ 43 → getD l 0 0 ≡ 58 → When roomy (at + 16 ≤ room) → not roomy ≡ false
+pub block-read-when : (l : List ℕ) (at room : ℕ) (bytes : List ℕ) (answer roomy : Bool) → length l ≡ 43 → getD l 0 0 ≡ 58
+    → When roomy (at + 16 ≤ room) → not roomy ≡ false
     → When answer (BlockSpelled l at bytes) → When answer (BlockRead l at room bytes)
 block-read-when l at room bytes answer roomy long colon r t w = record { says = λ q. block-read l at room bytes long colon (w .says q) (when-yes roomy r t) }
 
@@ -218,7 +226,8 @@ module _ (line : List ℕ) (at : ℕ) (d d′ : List ℕ) (taken : Bool) (b : Bl
 pub block-other : (line : List ℕ) (at : ℕ) (d : List ℕ) → BlockTaken false line at d d
 block-other line at d = record { taken-whole = λ e. never e; otherwise = λ e. refl }
 
-pub block-fits : (l : List ℕ) (at : ℕ) (d bytes : List ℕ) (is : Bool) → When is (BlockRead l at (min largestImage (length d)) bytes) → not is ≡ false → at + 16 ≤ length d
+pub block-fits : (l : List ℕ) (at : ℕ) (d bytes : List ℕ) (is : Bool)
+    → When is (BlockRead l at (min largestImage (length d)) bytes) → not is ≡ false → at + 16 ≤ length d
 block-fits l at d bytes is w t = omega (arith, when-yes is w t .fits)
 
 pub block-taken : (line : List ℕ) (at : ℕ) (d d′ bytes : List ℕ) (is : Bool) → HasBlockLength line

@@ -4,7 +4,7 @@ use mathlib.Core.Bool.{Bool, true, false, not}
 use mathlib.Core.List.{List, [], _∷_}
 use Prim.Native.Nat.{ℕ, zero, suc, _+_, _*_, _/_, _%_, _≤_, _<_}
 use native.Mathlib.Omega.{arith}
-use lib.ListN.{length, getD}
+use lib.ListN.{getD}
 use Rattle.laws.specs.Bytes.{Bytes}
 use Rattle.laws.specs.BytesLaws.{bytes-nil, bytes-cons}
 use Rattle.laws.specs.Cases.{split, never}
@@ -85,10 +85,6 @@ pub record HeadNumber (at r : ℕ) : Type 0 where
   pub lows : digit low ≡ at % 16
   pub is : r ≡ numberAt 8 (49 ∷ 48 ∷ 48 ∷ high ∷ middle ∷ low ∷ 48 ∷ 48 ∷ []) 0
 
-pub head-number : (at high middle low r : ℕ) → digit high ≡ at / 256 → digit middle ≡ at / 16 % 16 → digit low ≡ at % 16
-    → r ≡ numberAt 8 (49 ∷ 48 ∷ 48 ∷ high ∷ middle ∷ low ∷ 48 ∷ 48 ∷ []) 0 → HeadNumber at r
-head-number at high middle low r a b c e = record { high = high; middle = middle; low = low; highs = a; middles = b; lows = c; is = e }
-
 pub record HeadSpelled (l : List ℕ) (at : ℕ) : Type 0 where
   pub count : SpellsByte l 1 16
   pub high : SpellsByte l 3 (at / 256)
@@ -96,7 +92,8 @@ pub record HeadSpelled (l : List ℕ) (at : ℕ) : Type 0 where
   pub kind : SpellsByte l 7 0
 
 -- two characters that are known
-spells : (l : List ℕ) (i a b byte : ℕ) → getD l i 0 ≡ a → getD l (i + 1) 0 ≡ b → digit a < 16 → digit b < 16 → byte ≡ digit a * 16 + digit b → SpellsByte l i byte
+spells : (l : List ℕ) (i a b byte : ℕ) → getD l i 0 ≡ a → getD l (i + 1) 0 ≡ b → digit a < 16 → digit b < 16
+    → byte ≡ digit a * 16 + digit b → SpellsByte l i byte
 unfolding byteAt
 spells l i a b byte e f h k s = record { high = rw e h; low = rw f k; is = rw (e, f) s }
 
@@ -119,7 +116,8 @@ head-same l at head other small h n s =
     record {
       says = λ q. record {
         count = spells l 1 49 48 16 (same 0 (omega arith)) (same 1 (omega arith)) (omega arith) (omega arith) refl;
-        high = spells l 3 48 (n .high) (at / 256) (same 2 (omega arith)) (same 3 (omega arith)) (omega arith) (omega (arith, n .highs)) (omega (arith, n .highs));
+        high = spells l 3 48 (n .high) (at / 256) (same 2 (omega arith)) (same 3 (omega arith)) (omega arith) (omega (arith, n .highs))
+            (omega (arith, n .highs));
         low = spells l 5 (n .middle) (n .low) (at % 256) (same 4 (omega arith)) (same 5 (omega arith)) (omega (arith, n .middles)) (omega (arith, n .lows))
             (omega (arith, n .middles, n .lows));
         kind = spells l 7 48 48 0 (same 6 (omega arith)) (same 7 (omega arith)) (omega arith) (omega arith) refl;
@@ -140,9 +138,6 @@ pub record ByteNumber (byte r : ℕ) : Type 0 where
   pub highs : digit high ≡ byte / 16
   pub lows : digit low ≡ byte % 16
   pub is : TwoCharacters high low r
-
-pub byte-number : (byte high low r : ℕ) → digit high ≡ byte / 16 → digit low ≡ byte % 16 → TwoCharacters high low r → ByteNumber byte r
-byte-number byte high low r a b t = record { high = high; low = low; highs = a; lows = b; is = t }
 
 pub byte-same : (l : List ℕ) (i byte found other : ℕ) → byte < 256 → TwoCharacters (getD l i 0) (getD l (i + 1) 0) found → ByteNumber byte other → found ≡ other
     → When true (SpellsByte l i byte)

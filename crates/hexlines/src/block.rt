@@ -45,18 +45,18 @@ fn has_room(at: usize, size: usize) -> bool
     true
 }
 
-// The bytes that a record's data spell, and their sum modulo 256, or 256 where a character is no digit. The digits are validated
-// after the loop, so that it vectorises.
-fn decode(line: &[u8], bytes: &mut [u8]) -> usize
-    requires { ⌜ (41 ≤ length (now line)) × (length (now bytes) ≡ 16) ⌝ }
-    ensures { λ r. ⌜ PairsWritten (now (line .entry)) 9 16 (now (bytes .entry)) (now (bytes .exit)) 0 r ⌝ }
+// The 16 bytes that the characters from a place on spell, and their sum modulo 256, or 256 where one is no digit. The digits are
+// validated after the loop, so that it vectorises.
+pub fn decode(line: &[u8], from: usize, bytes: &mut [u8]) -> usize
+    requires { ⌜ (from + 32 ≤ length (now line)) × (length (now bytes) ≡ 16) ⌝ }
+    ensures { λ r. ⌜ PairsWritten (now (line .entry)) from 16 (now (bytes .entry)) (now (bytes .exit)) 0 r ⌝ }
 {
     let mut sum: u8 = 0;
     let mut largest: u8 = 0;
     let mut i: usize = 0;
     while i < BLOCK {
-        let high = digit(line[9 + i * 2]);
-        let low = digit(line[9 + i * 2 + 1]);
+        let high = digit(line[from + i * 2]);
+        let low = digit(line[from + i * 2 + 1]);
         let byte = high % 16 * 16 + low % 16;
         bytes[i] = byte;
         sum = std::num::wrapping_add_u8(sum, byte);
@@ -77,7 +77,7 @@ fn spells_block(line: &[u8], at: usize, bytes: &mut [u8]) -> bool
     if !head_is(line, at) {
         return false;
     }
-    let sum = decode(line, bytes);
+    let sum = decode(line, 9, bytes);
     if 256 <= sum {
         return false;
     }
@@ -99,7 +99,7 @@ fn is_block(line: &[u8], at: usize, size: usize, bytes: &mut [u8]) -> bool
     spells_block(line, at, bytes)
 }
 
-fn put_block(bytes: &[u8], image: &mut [u8], at: usize)
+pub fn put_block(bytes: &[u8], image: &mut [u8], at: usize)
     requires { ⌜ (length (now bytes) ≡ 16) × (at + 16 ≤ length (now image)) ⌝ }
     ensures { λ _. ⌜ now (image .exit) ≡ paste (now (image .entry)) at (now (bytes .entry)) 16 ⌝ }
 {

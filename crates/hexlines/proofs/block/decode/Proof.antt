@@ -6,10 +6,10 @@ use Rattle.hexlines.proofs.block.decode.Statement.{statement}
 use Rattle.hexlines.proofs.block.decode.Tie as tie
 
 abbrev Inv-loop : tie.InvT-loop
-Inv-loop line bytes₀ sum₀ largest₀ i₀ bytes sum largest i = WritingPairs line 9 16 bytes₀ bytes 0 sum largest i
+Inv-loop line from bytes₀ sum₀ largest₀ i₀ bytes sum largest i = WritingPairs line from 16 bytes₀ bytes 0 sum largest i
 
 abbrev μ-loop : tie.MeasureT-loop
-μ-loop line bytes₀ sum₀ largest₀ i₀ bytes sum largest i = 16 - i
+μ-loop line from bytes₀ sum₀ largest₀ i₀ bytes sum largest i = 16 - i
 
 loop-holds : tie.Need-loop-holds Inv-loop μ-loop
 loop-holds c = search (needs, writing-first)
