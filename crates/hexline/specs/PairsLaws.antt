@@ -21,7 +21,7 @@ pub record PairsAddUp (l : List ℕ) (from n s : ℕ) : Type 0 where
 pub add-up-none : (l : List ℕ) (from : ℕ) → PairsAddUp l from 0 0
 add-up-none l from = let e : from + 0 * 2 ≡ from = omega arith in record { digits = rw e; sum = rw e (omega arith) }
 
-add-up-one : (l : List ℕ) (i b : ℕ) → i + 1 < length l → SpellsByte l i b → PairsAddUp l i 1 b
+pub add-up-one : (l : List ℕ) (i b : ℕ) → i + 1 < length l → SpellsByte l i b → PairsAddUp l i 1 b
 add-up-one l i b h q = record { digits = spells-digits l i h q; sum = omega (arith, bytes-total-more l i h, q .is) }
 
 pub add-up-then : (l : List ℕ) (from n m s t : ℕ) → PairsAddUp l from n s → PairsAddUp l (from + n * 2) m t → PairsAddUp l from (n + m) ((s + t) % 256)

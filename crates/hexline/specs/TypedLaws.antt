@@ -9,8 +9,10 @@ use lib.Dec.{ltb, leb, eqb}
 use lib.ListN.{length, drop, length-drop}
 use lib.Seq.{length-take-le}
 use Rattle.laws.specs.Cases.{positive, both-left, both-right}
+use Rattle.hextext.specs.declared.Header.{Header}
 use Rattle.hextext.specs.declared.TextLine.{TextLine}
-use Rattle.hextext.specs.declared.TextLine.the-variants.{Bad}
+use Rattle.hextext.specs.declared.TextLine.the-variants.{Good, Bad}
+use Rattle.hextext.specs.declared.Record.{Record}
 use Rattle.hextext.specs.declared.Record.the-variants.{Data, End, Fault}
 use Rattle.hextext.specs.Record.{bytesOf, recordBytes, countOf, addressOf, typeOf, dataOf, formed, summed, lineOf, typed, placed, judge}
 use Rattle.hextext.specs.RecordLaws.{formed-length, length-bytesOf}
@@ -55,6 +57,16 @@ module _ (room at count address kind : ℕ) where
   pub typed-end : (kind ≡ 0 → ⊥) → kind ≡ 1 → count ≡ 0 → address ≡ 0 → End ≡ typed room at count address kind
   unfolding typed
   typed-end k o n a = sym (simp (ne-eqb kind 0 k, eq-eqb kind 1 o, eq-eqb count 0 n, eq-eqb address 0 a))
+
+-- of a line, by what it is by itself
+module _ (room at : ℕ) (l : List ℕ) (line : TextLine) (e : line ≡ lineOf l) where
+  pub judged-good : (h : Header) (r : Record) → line ≡ Good h → r ≡ typed room at (h .count) (h .address) (h .kind) → r ≡ judge room at l
+  unfolding judge placed
+  judged-good h r f g = rw (← e, f) g
+
+  pub judged-bad : (number : ℕ) → line ≡ Bad number → Fault number ≡ judge room at l
+  unfolding judge placed
+  judged-bad number f = rw (← e, f)
 
 -- ---- what an answer says
 

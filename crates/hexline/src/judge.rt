@@ -1,6 +1,8 @@
 // A line judged as a record, and its data bytes.
 ghost use mathlib.Core.Path.{_≡_};
-ghost use Rattle.hextext.specs.Record.{lineOf, typed};
+ghost use Prim.Native.Nat.{min};
+ghost use Rattle.limits.specs.Limits.{largestImage};
+ghost use Rattle.hextext.specs.Record.{lineOf, typed, judge};
 ghost use Rattle.hexline.specs.Line.{dataByte};
 ghost use Rattle.hexline.specs.JudgeLaws.{SpelledAt};
 use crate::digits::digit;
@@ -8,6 +10,7 @@ use crate::digits::digits_sum;
 use hextext::Header;
 use hextext::Record;
 use hextext::TextLine;
+use limits::LARGEST_IMAGE;
 
 // The byte that the two characters at a place spell, 0 where they are not there.
 fn byte_at(line: &[u8], at: usize) -> usize
@@ -95,4 +98,26 @@ pub fn judge_header(room: usize, at: usize, header: Header) -> Record
         return Record::Fault(3);
     }
     Record::End
+}
+
+// A line without its line end, judged in its place: by itself first.
+pub fn judge_in_place(room: usize, at: usize, line: &[u8]) -> Record
+    ensures { λ r. ⌜ r ≡ judge room at (now (line .entry)) ⌝ }
+{
+    let judged = judge_line(line);
+    match judged {
+        TextLine::Good(header) => judge_header(room, at, header),
+        TextLine::Bad(number) => Record::Fault(number),
+    }
+}
+
+// The room that a buffer of `size` bytes gives an image.
+pub fn room_in(size: usize) -> usize
+    ensures { λ r. ⌜ r ≡ min largestImage size ⌝ }
+{
+    if size < LARGEST_IMAGE {
+        size
+    } else {
+        LARGEST_IMAGE
+    }
 }

@@ -16,4 +16,6 @@ pub use ends::line_length;
 pub use ends::next_line;
 pub use judge::data_byte;
 pub use judge::judge_header;
+pub use judge::judge_in_place;
 pub use judge::judge_line;
+pub use judge::room_in;

@@ -13,7 +13,7 @@ use Rattle.laws.specs.SumsLaws.{total-append}
 use Rattle.hextext.specs.Record.{digit, allDigits, bytesOf}
 use Rattle.hextext.specs.RecordLaws.{length-bytesOf}
 use Rattle.hexline.specs.PairsLaws.{PairsAddUp}
-use Rattle.hexread.specs.PairsLaws.{PairsWritten, WritingPairs, writing-block, writing-block-failed}
+use Rattle.hexline.specs.WrittenPairsLaws.{PairsWritten, WritingPairs, writing-block, writing-block-failed}
 
 -- ---- the characters copied
 

@@ -5,15 +5,15 @@ use mathlib.Core.List.{List, [], _∷_, _++_, append-nil, append-assoc}
 use Prim.Native.Nat.{ℕ, zero, suc, _+_, _-_, _*_, _≤_, _<_, suc-le-suc}
 use native.Mathlib.Omega.{arith}
 use native.Mathlib.Numerals.{add-one}
-use borrow.Author.Tests.{eq-eqb, ne-eqb, eqb-true}
+use borrow.Author.Tests.{eq-eqb, eqb-true}
 use lib.Dec.{eqb}
-use lib.ListN.{length, take, drop, getD, length-append, take-append-drop, List·getD-eq-default}
-use lib.Seq.{drop-cons, take-append-seam, drop-append-add, take-suc, getD-take, getD-drop, take-take, length-take-le}
+use lib.ListN.{length, take, drop, getD, take-append-drop, List·getD-eq-default}
+use lib.Seq.{drop-cons, take-suc, getD-take, getD-drop, take-take, length-take-le}
 use Rattle.laws.specs.Cases.{split, decide, both-left, both-right}
 use Rattle.refusals.specs.Refusals.{refused, refusal}
 use Rattle.hextext.specs.Record.{allDigits, recordBytes, countOf, dataOf, formed, judge}
-use Rattle.hextext.specs.RecordLaws.{byteAt, digit-low, allDigits-at, recordBytes-head, formed-long, formed-length, formed-digits, formed-colon, judge-unformed}
-use Rattle.hextext.specs.Text.{lineLength, bare, after, reading}
+use Rattle.hextext.specs.RecordLaws.{byteAt, recordBytes-head, formed-long, formed-length, formed-digits, formed-colon, judge-unformed}
+use Rattle.hextext.specs.Text.{bare, after, reading}
 use Rattle.hextext.specs.WithoutLaws.{Without, without-append, without-one, digits-without, bare-without}
 use Rattle.hextext.specs.TextLaws.{reading-line}
 use Rattle.hexline.specs.Line.{nextLine}

@@ -1,9 +1,6 @@
 pub mod DigitsLaws
-pub mod PairsLaws
 pub mod BlockLaws
 pub mod RecordLaws
 pub mod GatheredLaws
 pub mod LineLaws
 pub mod TextLaws
-pub mod Taken
-pub mod ByLineLaws

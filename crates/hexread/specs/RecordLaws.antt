@@ -1,7 +1,7 @@
 -- A line that is as long as its count says, judged, with its data in the image: a law for each way out.
 use mathlib.Core.Path.{_≡_, refl, sym, _∙_}
 use mathlib.Core.Bool.{Bool, true, false, cond, _&&_, and-true}
-use mathlib.Core.List.{List, _++_}
+use mathlib.Core.List.{List}
 use Prim.Native.Nat.{ℕ, _+_, _-_, _*_, _%_, _≤_, _<_}
 use native.Mathlib.Omega.{arith}
 use borrow.Author.Tests.{eq-eqb, ne-eqb, eqb-true, eqb-false, lt-ltb, le-ltb}
@@ -10,16 +10,13 @@ use lib.ListN.{length, take, drop, getD}
 use lib.Seq.{take-take, paste, paste-zero}
 use Rattle.laws.specs.Cases.{split, decide}
 use Rattle.laws.specs.Sums.{total}
-use Rattle.hextext.specs.declared.Header.{Header}
-use Rattle.hextext.specs.declared.TextLine.{TextLine}
-use Rattle.hextext.specs.declared.TextLine.the-variants.{Good, Bad}
 use Rattle.hextext.specs.declared.Record.{Record}
 use Rattle.hextext.specs.declared.Record.the-variants.{Data, End, Fault}
 use Rattle.hextext.specs.Record.{allDigits, bytesOf, recordBytes, countOf, dataOf, formed, summed, lineOf, typed, placed, judge}
-use Rattle.hextext.specs.RecordLaws.{byteAt, allDigits-end, bytes-total-more, bytes-total-end, formed-at, judge-unformed, recordBytes-head, length-bytesOf}
+use Rattle.hextext.specs.RecordLaws.{byteAt, allDigits-end, bytes-total-more, bytes-total-end, formed-at, judge-unformed, recordBytes-head}
 use Rattle.hexline.specs.TypedLaws.{end-empty, good-data-record}
+use Rattle.hexline.specs.WrittenPairsLaws.{PairsWritten}
 use Rattle.hexread.specs.DigitsLaws.{noDigit, Pair, pair-below, pair-byte, pair-digits, pair-none, none-after-pair}
-use Rattle.hexread.specs.PairsLaws.{PairsWritten}
 
 -- ---- a record judged by its parts
 
@@ -87,9 +84,6 @@ taken-fault k l d d′ room at j =
       same = λ q. let z : _≡_ {A = ℕ} 0 1 = cc in absurd (omega arith);
     }
 
-pub taken-unformed : (l d d′ : List ℕ) (room at : ℕ) → formed l ≡ false → RecordTaken (Fault 1) l d d′ room at
-taken-unformed l d d′ room at e = taken-fault 1 l d d′ room at (judge-unformed room at l e)
-
 data-from-nine : (l : List ℕ) (n : ℕ) → length l ≡ 11 + n * 2 → countOf (recordBytes l) ≡ n → dataOf (recordBytes l) ≡ take n (bytesOf (drop 9 l))
 unfolding dataOf
 data-from-nine l n h e = rw (e, recordBytes-head l (omega arith))
@@ -113,7 +107,7 @@ module _ (l : List ℕ) (n : ℕ) (v : Counted l n) where
 
   module _ (d d′ : List ℕ) (room at : ℕ) where
     no-digits : allDigits (drop 1 l) ≡ false → RecordTaken (Fault 1) l d d′ room at
-    no-digits e = taken-unformed l d d′ room at (formed-by-digits false e)
+    no-digits e = taken-fault 1 l d d′ room at (judge-unformed room at l (formed-by-digits false e))
 
     module _ (high low kind : ℕ) (ph : Pair l 3 high) (pl : Pair l 5 low) (pk : Pair l 7 kind) (s : ℕ) (w : PairsWritten l 9 n d d′ at s) where
       taken-bad-data : 256 ≤ s → RecordTaken (Fault 1) l d d′ room at
@@ -217,22 +211,10 @@ module _ (l : List ℕ) (n : ℕ) (v : Counted l n) where
 
 -- ---- a line whose data have no room
 
-module _ (room at : ℕ) (l : List ℕ) (line : TextLine) (e : line ≡ lineOf l) where
-  pub judged-good : (h : Header) (r : Record) → line ≡ Good h → r ≡ typed room at (h .count) (h .address) (h .kind) → r ≡ judge room at l
-  unfolding judge placed
-  judged-good h r f g = rw (← e, f) g
-
-  pub judged-bad : (number : ℕ) → line ≡ Bad number → Fault number ≡ judge room at l
-  unfolding judge placed
-  judged-bad number f = rw (← e, f)
-
-module _ (l d : List ℕ) (room at : ℕ) (r : Record) (e : r ≡ judge room at l) where
-  taken-unwritten : ((m : ℕ) → at + m ≤ room → length l ≡ 11 + m * 2 → ⊥) → RecordTaken r l d d room at
-  taken-unwritten none =
-      record { judged = e; wrote = λ m t. let u = good-data-record room at l m (sym e ∙ t) in absurd (none m (u .fits) (u .long)); same = λ t. refl }
-
-  pub taken-no-room : (n : ℕ) → Counted l n → room - at < n → RecordTaken r l d d room at
-  taken-no-room n v h = taken-unwritten (λ m f g. omega (arith, v .long))
-
-  pub taken-past : room < at → RecordTaken r l d d room at
-  taken-past h = taken-unwritten (λ m f g. omega arith)
+pub taken-no-room : (l d : List ℕ) (n room at : ℕ) (r : Record) → Counted l n → room - at < n → r ≡ judge room at l → RecordTaken r l d d room at
+taken-no-room l d n room at r v h e =
+    record {
+      judged = e;
+      wrote = λ m t. let u = good-data-record room at l m (sym e ∙ t) in absurd (omega (arith, v .long, u .long, u .fits));
+      same = λ t. refl;
+    }

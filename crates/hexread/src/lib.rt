@@ -16,11 +16,6 @@ mod line;
 // The whole text, line by line.
 mod text;
 
-// A line by itself, with its line end.
-mod by_line;
-
-pub use by_line::take_line;
-
 // Reads the text into the image, with zeros after it; where the text is refused the image is all zeros.
 pub fn read(text: &[u8], image: &mut [u8]) -> Filled
     ensures { λ r. ⌜ Fills (readText (length (now (image .entry))) (now (text .entry))) (now (image .entry)) r (now (image .exit)) ⌝ }

@@ -2,19 +2,17 @@
 ghost use mathlib.Core.Path.{_≡_};
 ghost use Prim.Native.Nat.{_+_, _*_, _≤_};
 ghost use lib.ListN.{length, take, drop};
-ghost use Rattle.hextext.specs.Record.{judge};
+ghost use Rattle.hexline.specs.WrittenPairsLaws.{PairsWritten};
 ghost use Rattle.hexread.specs.DigitsLaws.{DigitValues};
-ghost use Rattle.hexread.specs.PairsLaws.{PairsWritten};
 ghost use Rattle.hexread.specs.RecordLaws.{Bounded, judgedParts, Counted, RecordTaken};
 use crate::digits::NO_DIGIT;
 use crate::digits::pair;
 use hexline::digit;
 use hexline::greatest;
 use hexline::judge_header;
-use hexline::judge_line;
+use hexline::judge_in_place;
 use hextext::Header;
 use hextext::Record;
-use hextext::TextLine;
 
 // data bytes at a time
 const BLOCK: usize = 16;
@@ -119,17 +117,6 @@ fn judge_parts(
     )
 }
 
-// The record of a line whose data have no room, and so are not written.
-pub fn judge_unwritten(line: &[u8], at: usize, room: usize) -> Record
-    ensures { λ r. ⌜ r ≡ judge room at (now (line .entry)) ⌝ }
-{
-    let judged = judge_line(line);
-    match judged {
-        TextLine::Good(header) => judge_header(room, at, header),
-        TextLine::Bad(number) => Record::Fault(number),
-    }
-}
-
 // The record of a line that is as long as its count says, judged, its data in the image where they have room.
 pub fn take_record(
     values: &[u16; 256],
@@ -143,7 +130,7 @@ pub fn take_record(
     ensures { λ r. ⌜ RecordTaken r (now (line .entry)) (now (image .entry)) (now (image .exit)) room at ⌝ }
 {
     if room - at < count {
-        return judge_unwritten(line, at, room);
+        return judge_in_place(room, at, line);
     }
     let high = pair(values, line, 3);
     let low = pair(values, line, 5);

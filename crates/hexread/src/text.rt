@@ -1,8 +1,6 @@
 // The whole text, line by line.
 ghost use mathlib.Core.Path.{_≡_};
-ghost use Prim.Native.Nat.{min};
 ghost use lib.ListN.{length};
-ghost use Rattle.limits.specs.Limits.{largestImage};
 ghost use Rattle.refusals.specs.declared.Filled.the-variants.{Refused};
 ghost use Rattle.refusals.specs.Refusals.{refusal};
 ghost use Rattle.refusals.specs.RefusalsLaws.{Begins};
@@ -10,20 +8,9 @@ ghost use Rattle.hextext.specs.Text.{readText};
 use crate::digits::values;
 use crate::line::Step;
 use crate::line::first_line;
-use limits::LARGEST_IMAGE;
+use hexline::room_in;
 use refusals::Filled;
 use refusals::Refusal;
-
-// The room that a buffer of `size` bytes gives an image.
-pub fn room_in(size: usize) -> usize
-    ensures { λ r. ⌜ r ≡ min largestImage size ⌝ }
-{
-    if size < LARGEST_IMAGE {
-        size
-    } else {
-        LARGEST_IMAGE
-    }
-}
 
 fn text_refused(number: u32, line: u64) -> Filled
     ensures { λ r. ⌜ r ≡ Refused (refusal number line) ⌝ }

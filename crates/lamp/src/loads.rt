@@ -150,7 +150,7 @@ fn take_line(panel: Panel, line: &[u8], image: &mut [u8]) -> Panel
     ensures { λ r. ⌜ standing r (now (image .exit)) ≡ nextTaken (now (line .entry)) (standing panel (now (image .entry))) ⌝ }
 {
     let at = panel.size_or_number as usize;
-    let taken = hexread::take_line(line, at, image);
+    let taken = hexlines::take_line(line, at, image);
     match taken {
         Record::Data(count) => grow(panel, count, image),
         Record::End => Panel {

@@ -1,6 +1,6 @@
 use Prim.Native.Nat.{_-_}
 use borrow.Author.Needs.{needs}
-use Rattle.hexread.specs.PairsLaws.{WritingPairs, writing-first, writing-block-failed, writing-rest}
+use Rattle.hexline.specs.WrittenPairsLaws.{WritingPairs, writing-first, writing-block-failed, writing-rest}
 use Rattle.hexread.specs.BlockLaws.{block-failed, block-more}
 use Rattle.hexread.proofs.record.put_data.Statement.{statement}
 use Rattle.hexread.proofs.record.put_data.Tie as tie

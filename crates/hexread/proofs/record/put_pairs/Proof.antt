@@ -1,6 +1,6 @@
 use Prim.Native.Nat.{_-_}
 use borrow.Author.Needs.{needs}
-use Rattle.hexread.specs.PairsLaws.{WritingPairs, writing-first, writing-more, writing-failed, writing-end}
+use Rattle.hexline.specs.WrittenPairsLaws.{WritingPairs, writing-first, writing-more, writing-failed, writing-end}
 use Rattle.hexread.proofs.record.put_pairs.Statement.{statement}
 use Rattle.hexread.proofs.record.put_pairs.Tie as tie
 

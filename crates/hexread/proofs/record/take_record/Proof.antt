@@ -6,8 +6,8 @@ use Rattle.hexread.proofs.record.take_record.Tie as tie
 sub-if1 : tie.Need-sub-if1
 sub-if1 c = search needs
 
-judge-unwritten-requires : tie.Need-judge-unwritten-requires
-judge-unwritten-requires c κs = search needs
+judge-in-place-requires : tie.Need-judge-in-place-requires
+judge-in-place-requires c κs = search needs
 
 returns : tie.Need-returns
 returns c = search (needs, taken-no-room)
@@ -47,7 +47,7 @@ take-record-spec =
     tie.close
     (tie.spec
     sub-if1
-    judge-unwritten-requires
+    judge-in-place-requires
     returns
     pair-requires
     pair-requires-2

@@ -1,4 +1,4 @@
--- The pairs of a record's data: whether they are digits, what their bytes add up to, and the image that they are written into.
+-- Pairs of characters written as bytes: whether they are digits, what the bytes add up to, and the buffer that they are written into.
 use mathlib.Core.Path.{_≡_, refl, _∙_}
 use mathlib.Core.Bool.{false}
 use mathlib.Core.List.{List, append-assoc}
@@ -9,18 +9,18 @@ use lib.ListN.{length, take, drop, getD, set, length-set}
 use lib.Seq.{drop-drop, take-add, paste, paste-zero, paste-suc, take-paste, drop-paste}
 use Rattle.hextext.specs.Record.{digit, allDigits, bytesOf}
 use Rattle.hextext.specs.RecordLaws.{bytesOf-more, getD-bytesOf, length-bytesOf}
 use Rattle.hexline.specs.DigitsLaws.{digits-spell}
 use Rattle.hexline.specs.PairsLaws.{PairsAddUp, add-up-then, AddingPairs, adding-first, adding-more}
 
 -- ---- bytes from a place on, and written in two goes
 
-bytesOf-drop : (l : List ℕ) (from n : ℕ) → from + n * 2 ≤ length l → bytesOf (drop (from + n * 2) l) ≡ drop n (bytesOf (drop from l))
+pub bytesOf-drop : (l : List ℕ) (from n : ℕ) → from + n * 2 ≤ length l → bytesOf (drop (from + n * 2) l) ≡ drop n (bytesOf (drop from l))
 bytesOf-drop l from zero h = let e : from + zero * 2 ≡ from = omega arith in rw e
 bytesOf-drop l from (suc n) h =
     let e : from + suc n * 2 ≡ from + 2 + n * 2 = omega arith in
     rw (e, bytesOf-more l from (omega arith)) (bytesOf-drop l (from + 2) n (omega arith))
 
-paste-then : (d : List ℕ) (to : ℕ) (bytes : List ℕ) (n m : ℕ) → to ≤ length d → n ≤ length bytes
+pub paste-then : (d : List ℕ) (to : ℕ) (bytes : List ℕ) (n m : ℕ) → to ≤ length d → n ≤ length bytes
     → paste (paste d to bytes n) (to + n) (drop n bytes) m ≡ paste d to bytes (n + m)
 paste-then d to bytes n m h k =
     let e : to + n + m ≡ to + (n + m) = omega arith in

@@ -1,7 +1,7 @@
 use borrow.Author.Needs.{needs}
-use Rattle.hexread.specs.RecordLaws.{judged-good, judged-bad}
-use Rattle.hexread.proofs.record.judge_unwritten.Statement.{statement}
-use Rattle.hexread.proofs.record.judge_unwritten.Tie as tie
+use Rattle.hexline.specs.TypedLaws.{judged-good, judged-bad}
+use Rattle.hexline.proofs.judge.judge_in_place.Statement.{statement}
+use Rattle.hexline.proofs.judge.judge_in_place.Tie as tie
 
 judge-line-requires : tie.Need-judge-line-requires
 judge-line-requires c κs = search needs
@@ -21,8 +21,8 @@ returns c = search (needs, judged-good)
 returns-2 : tie.Need-returns-2
 returns-2 c = search (needs, judged-bad)
 
-pub judge-unwritten-spec : {M : Type 1} → statement M
-judge-unwritten-spec =
+pub judge-in-place-spec : {M : Type 1} → statement M
+judge-in-place-spec =
     tie.close
     (tie.spec
     judge-line-requires

@@ -1,0 +1,30 @@
+use borrow.Author.Needs.{needs}
+use Rattle.hexlines.specs.LettersLaws.{decimal-spells, lower-case-spells, upper-case-spells}
+use Rattle.hexlines.proofs.letters.character.Statement.{statement}
+use Rattle.hexlines.proofs.letters.character.Tie as tie
+
+cast-value : tie.Need-cast-value
+cast-value c = search needs
+
+add-result : tie.Need-add-result
+add-result c = search needs
+
+returns : tie.Need-returns
+returns c = search (needs, decimal-spells)
+
+add-result-2 : tie.Need-add-result-2
+add-result-2 c = search needs
+
+returns-2 : tie.Need-returns-2
+returns-2 c = search (needs, lower-case-spells)
+
+add-result-3 : tie.Need-add-result-3
+add-result-3 c = search needs
+
+returns-3 : tie.Need-returns-3
+returns-3 c = search (needs, upper-case-spells)
+
+pub character-spec : {M : Type 1} → statement M
+character-spec =
+    tie.close
+    (tie.spec cast-value add-result returns add-result-2 returns-2 add-result-3 returns-3)
