@@ -1,6 +1,6 @@
 -- A contract is an equation with a definition, so it determines. The one law, and its forms for the relations that contracts name.
 use mathlib.Core.List.{List}
-use mathlib.Core.Path.{_≡_, refl, sym, _∙_}
+use mathlib.Core.Path.{_≡_, refl, sym, ap, _∙_}
 use Prim.Native.Nat.{ℕ}
 use denote.Ref.{RefT}
 use Rattle.numbers.specs.Slices.{IsPart}
@@ -9,6 +9,8 @@ use Rattle.refusals.specs.declared.for_c.FilledForC.{FilledForC}
 use Rattle.refusals.specs.Refusals.{Outcome, Fills}
 use Rattle.refusals.specs.ForC.{FillsForC}
 use Rattle.image.specs.Find.{Found}
+use Rattle.lamp.specs.declared.Panel.{Panel}
+use Rattle.lamp.specs.Panel.{Standing, standing}
 use Rattle.contracts.specs.Contract.{SamePart}
 
 pub determined : {A : Type 0} {r r′ said : A} → r ≡ said → r′ ≡ said → r ≡ r′
@@ -34,6 +36,10 @@ module _ {outcome : Outcome} {before after after′ : List ℕ} where
 
   pub fills-for-c : {r r′ : FilledForC} → FillsForC outcome before r after → FillsForC outcome before r′ after′ → (r ≡ r′) × (after ≡ after′)
   fills-for-c f g = (determined (f .answers) (g .answers), determined (f .holds) (g .holds))
+
+-- a panel, and what its buffer holds
+pub stands : {r r′ : Panel} {l l′ : List ℕ} {said : Standing} → standing r l ≡ said → standing r′ l′ ≡ said → (r ≡ r′) × (l ≡ l′)
+stands e f = let same = determined e f in (ap (λ (s : Standing). s .panel) same, ap (λ (s : Standing). s .buffer) same)
 
 -- The buffer is the first argument, or one of the next.
 pub first : {A N : Type 0} {none : N} {l l′ : List ℕ} → A × (l ≡ l′) → A × (_≡_ {A = List ℕ × N} (l, none) (l′, none))

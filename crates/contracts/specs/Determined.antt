@@ -18,10 +18,11 @@ use Rattle.sets.proofs as sets
 use Rattle.bodies.proofs as bodies
 use Rattle.reading.proofs as reading
 use Rattle.panel.proofs as panel
+use Rattle.lamp.proofs as lamp
 use Rattle.bjorkneve.proofs as bjorkneve
 use Rattle.display.proofs as display
 use Rattle.contracts.specs.Contract.{Alike, Determines, SamePart}
-use Rattle.contracts.specs.ContractLaws.{determined, answers, is-part, is-found, fills, fills-for-c, first, next}
+use Rattle.contracts.specs.ContractLaws.{determined, answers, is-part, is-found, fills, fills-for-c, stands, first, next}
 use Rattle.calls.specs.BuildReads as build
 
 -- whole
@@ -218,6 +219,46 @@ reading-determined _ _ _ _ _ _ = answers
 pub load-determined : Determines panel.load.ended panel.load.Reads.Learnt
 load-determined _ _ _ _ _ _ p q = next (next (first (fills p q)))
 
+pub identity-determined : Determines panel.identity.ended panel.identity.Reads.Learnt
+identity-determined _ _ _ _ _ _ = answers
+
+pub keep-accepted-determined : Determines panel.keep_accepted.ended panel.keep_accepted.Reads.Learnt
+keep-accepted-determined _ _ _ _ _ _ p q = next (first (determined (p .answers) (q .answers), determined (p .holds) (q .holds)))
+
+-- lamp
+pub power-on-determined : Determines lamp.power_on.ended lamp.power_on.Reads.Learnt
+power-on-determined _ _ _ _ _ _ p q = next (first (stands p q))
+
+pub panel-load-determined : Determines lamp.load.ended lamp.load.Reads.Learnt
+panel-load-determined _ _ _ _ _ _ p q = next (next (first (stands p q)))
+
+pub begin-determined : Determines lamp.begin.ended lamp.begin.Reads.Learnt
+begin-determined _ _ _ _ _ _ p q = next (first (stands p q))
+
+pub line-determined : Determines lamp.line.ended lamp.line.Reads.Learnt
+line-determined _ _ _ _ _ _ p q = next (next (first (stands p q)))
+
+pub end-determined : Determines lamp.end.ended lamp.end.Reads.Learnt
+end-determined _ _ _ _ _ _ p q = next (first (stands p q))
+
+pub is-lit-determined : Determines lamp.is_lit.ended lamp.is_lit.Reads.Learnt
+is-lit-determined _ _ _ _ _ _ = answers
+
+pub load-state-determined : Determines lamp.load_state.ended lamp.load_state.Reads.Learnt
+load-state-determined _ _ _ _ _ _ = answers
+
+pub panel-reading-determined : Determines lamp.reading.ended lamp.reading.Reads.Learnt
+panel-reading-determined _ _ _ _ _ _ = answers
+
+pub gauge-determined : Determines lamp.gauge.ended lamp.gauge.Reads.Learnt
+gauge-determined _ _ _ _ _ _ = answers
+
+pub status-for-c-determined : Determines lamp.status_for_c.ended lamp.status_for_c.Reads.Learnt
+status-for-c-determined _ _ _ _ _ _ = answers
+
+pub gauge-for-c-determined : Determines lamp.gauge_for_c.ended lamp.gauge_for_c.Reads.Learnt
+gauge-for-c-determined _ _ _ _ _ _ = answers
+
 -- bjorkneve
 pub bjorkneve-read-determined : Determines bjorkneve.bjorkneve_read.ended bjorkneve.bjorkneve_read.Reads.Learnt
 bjorkneve-read-determined _ _ _ _ _ _ p q = next (first (fills-for-c p q))
@@ -242,6 +283,30 @@ bjorkneve-build-determined _ _ _ _ _ _ p q = next (next (next (first (fills-for-
 
 pub bjorkneve-reading-determined : Determines bjorkneve.bjorkneve_reading.ended bjorkneve.bjorkneve_reading.Reads.Learnt
 bjorkneve-reading-determined _ _ _ _ _ _ = answers
+
+pub bjorkneve-panel-power-on-determined : Determines bjorkneve.bjorkneve_panel_power_on.ended bjorkneve.bjorkneve_panel_power_on.Reads.Learnt
+bjorkneve-panel-power-on-determined _ _ _ _ _ _ p q = next (first (stands p q))
+
+pub bjorkneve-panel-load-determined : Determines bjorkneve.bjorkneve_panel_load.ended bjorkneve.bjorkneve_panel_load.Reads.Learnt
+bjorkneve-panel-load-determined _ _ _ _ _ _ p q = next (next (first (stands p q)))
+
+pub bjorkneve-panel-begin-determined : Determines bjorkneve.bjorkneve_panel_begin.ended bjorkneve.bjorkneve_panel_begin.Reads.Learnt
+bjorkneve-panel-begin-determined _ _ _ _ _ _ p q = next (first (stands p q))
+
+pub bjorkneve-panel-line-determined : Determines bjorkneve.bjorkneve_panel_line.ended bjorkneve.bjorkneve_panel_line.Reads.Learnt
+bjorkneve-panel-line-determined _ _ _ _ _ _ p q = next (next (first (stands p q)))
+
+pub bjorkneve-panel-end-determined : Determines bjorkneve.bjorkneve_panel_end.ended bjorkneve.bjorkneve_panel_end.Reads.Learnt
+bjorkneve-panel-end-determined _ _ _ _ _ _ p q = next (first (stands p q))
+
+pub bjorkneve-panel-status-determined : Determines bjorkneve.bjorkneve_panel_status.ended bjorkneve.bjorkneve_panel_status.Reads.Learnt
+bjorkneve-panel-status-determined _ _ _ _ _ _ = answers
+
+pub bjorkneve-panel-reading-determined : Determines bjorkneve.bjorkneve_panel_reading.ended bjorkneve.bjorkneve_panel_reading.Reads.Learnt
+bjorkneve-panel-reading-determined _ _ _ _ _ _ = answers
+
+pub bjorkneve-panel-gauge-determined : Determines bjorkneve.bjorkneve_panel_gauge.ended bjorkneve.bjorkneve_panel_gauge.Reads.Learnt
+bjorkneve-panel-gauge-determined _ _ _ _ _ _ = answers
 
 -- display
 pub show-determined : Determines display.show.ended display.show.Reads.Learnt

@@ -17,6 +17,7 @@ use Rattle.sets.proofs as sets
 use Rattle.bodies.proofs as bodies
 use Rattle.reading.proofs as reading
 use Rattle.panel.proofs as panel
+use Rattle.lamp.proofs as lamp
 use Rattle.bjorkneve.proofs as bjorkneve
 use Rattle.display.proofs as display
 use Rattle.contracts.specs.Contract.{AsksNothing}
@@ -216,6 +217,46 @@ reading-free _ _ _ = refl
 pub load-free : AsksNothing panel.load.ended panel.load.Reads.requires
 load-free _ _ _ = refl
 
+pub identity-free : AsksNothing panel.identity.ended panel.identity.Reads.requires
+identity-free _ _ _ = refl
+
+pub keep-accepted-free : AsksNothing panel.keep_accepted.ended panel.keep_accepted.Reads.requires
+keep-accepted-free _ _ _ = refl
+
+-- lamp
+pub power-on-free : AsksNothing lamp.power_on.ended lamp.power_on.Reads.requires
+power-on-free _ _ _ = refl
+
+pub panel-load-free : AsksNothing lamp.load.ended lamp.load.Reads.requires
+panel-load-free _ _ _ = refl
+
+pub begin-free : AsksNothing lamp.begin.ended lamp.begin.Reads.requires
+begin-free _ _ _ = refl
+
+pub line-free : AsksNothing lamp.line.ended lamp.line.Reads.requires
+line-free _ _ _ = refl
+
+pub end-free : AsksNothing lamp.end.ended lamp.end.Reads.requires
+end-free _ _ _ = refl
+
+pub is-lit-free : AsksNothing lamp.is_lit.ended lamp.is_lit.Reads.requires
+is-lit-free _ _ _ = refl
+
+pub load-state-free : AsksNothing lamp.load_state.ended lamp.load_state.Reads.requires
+load-state-free _ _ _ = refl
+
+pub panel-reading-free : AsksNothing lamp.reading.ended lamp.reading.Reads.requires
+panel-reading-free _ _ _ = refl
+
+pub gauge-free : AsksNothing lamp.gauge.ended lamp.gauge.Reads.requires
+gauge-free _ _ _ = refl
+
+pub status-for-c-free : AsksNothing lamp.status_for_c.ended lamp.status_for_c.Reads.requires
+status-for-c-free _ _ _ = refl
+
+pub gauge-for-c-free : AsksNothing lamp.gauge_for_c.ended lamp.gauge_for_c.Reads.requires
+gauge-for-c-free _ _ _ = refl
+
 -- bjorkneve
 pub bjorkneve-read-free : AsksNothing bjorkneve.bjorkneve_read.ended bjorkneve.bjorkneve_read.Reads.requires
 bjorkneve-read-free _ _ _ = refl
@@ -240,6 +281,30 @@ bjorkneve-build-free _ _ _ = refl
 
 pub bjorkneve-reading-free : AsksNothing bjorkneve.bjorkneve_reading.ended bjorkneve.bjorkneve_reading.Reads.requires
 bjorkneve-reading-free _ _ _ = refl
+
+pub bjorkneve-panel-power-on-free : AsksNothing bjorkneve.bjorkneve_panel_power_on.ended bjorkneve.bjorkneve_panel_power_on.Reads.requires
+bjorkneve-panel-power-on-free _ _ _ = refl
+
+pub bjorkneve-panel-load-free : AsksNothing bjorkneve.bjorkneve_panel_load.ended bjorkneve.bjorkneve_panel_load.Reads.requires
+bjorkneve-panel-load-free _ _ _ = refl
+
+pub bjorkneve-panel-begin-free : AsksNothing bjorkneve.bjorkneve_panel_begin.ended bjorkneve.bjorkneve_panel_begin.Reads.requires
+bjorkneve-panel-begin-free _ _ _ = refl
+
+pub bjorkneve-panel-line-free : AsksNothing bjorkneve.bjorkneve_panel_line.ended bjorkneve.bjorkneve_panel_line.Reads.requires
+bjorkneve-panel-line-free _ _ _ = refl
+
+pub bjorkneve-panel-end-free : AsksNothing bjorkneve.bjorkneve_panel_end.ended bjorkneve.bjorkneve_panel_end.Reads.requires
+bjorkneve-panel-end-free _ _ _ = refl
+
+pub bjorkneve-panel-status-free : AsksNothing bjorkneve.bjorkneve_panel_status.ended bjorkneve.bjorkneve_panel_status.Reads.requires
+bjorkneve-panel-status-free _ _ _ = refl
+
+pub bjorkneve-panel-reading-free : AsksNothing bjorkneve.bjorkneve_panel_reading.ended bjorkneve.bjorkneve_panel_reading.Reads.requires
+bjorkneve-panel-reading-free _ _ _ = refl
+
+pub bjorkneve-panel-gauge-free : AsksNothing bjorkneve.bjorkneve_panel_gauge.ended bjorkneve.bjorkneve_panel_gauge.Reads.requires
+bjorkneve-panel-gauge-free _ _ _ = refl
 
 -- display
 pub show-free : AsksNothing display.show.ended display.show.Reads.requires
