@@ -2,6 +2,7 @@
 
 use compare::bodies::{identity, note, trim};
 use compare::random::Random;
+use compare::records::Record;
 use compare::sections::Sections;
 use compare::sets::{Prescale, Set};
 use compare::IMAGE_LIMIT;
@@ -10,10 +11,33 @@ use compare::IMAGE_LIMIT;
 const PRESSURE: (u64, u64) = (10_000, 2_000_000);
 const TEMPERATURE: (u64, u64) = (10_000, 1_800_000);
 
+/// A text and its lines, found beforehand.
+pub struct Text {
+    pub whole: &'static [u8],
+    pub lines: Vec<&'static [u8]>,
+}
+
+impl Text {
+    fn new(whole: &'static [u8]) -> Self {
+        Self {
+            whole,
+            lines: whole.split_inclusive(|byte| *byte == b'\n').collect(),
+        }
+    }
+}
+
 pub struct Inputs {
-    /// A text of the full image, as the writer makes it.
-    pub text: Vec<u8>,
-    /// Sixteen sections, 4,096 bytes.
+    /// Texts of the full image with so many data bytes in a record. The
+    /// writer makes 16.
+    pub text: Text,
+    pub text_32: Text,
+    pub text_8: Text,
+    /// The text of examples/typical.hex.
+    pub typical_text: Text,
+    /// A panel of level 2 without an image.
+    pub our_panel: bjorkneve::raw::BjorknevePanel,
+    pub reference_panel: reference::Panel,
+    /// Sixteen sections, 4,096 bytes, accepted by level 2.
     pub full: Vec<u8>,
     /// What the full image is built from.
     pub kinds: Vec<u32>,
@@ -32,14 +56,13 @@ impl Inputs {
         let mut random = Random::new(7);
         let sections = full(&mut random);
         let full = sections.image();
-        let mut text = vec![0; 3 * IMAGE_LIMIT];
-        let length = match reference::write(&full, &mut text) {
-            Ok(length) => length,
-            Err(refusal) => panic!("the full image isn't written: {:?}", refusal),
-        };
-        text.truncate(length);
         Self {
-            text,
+            text: Text::new(text(&full, 16)),
+            text_32: Text::new(text(&full, 32)),
+            text_8: Text::new(text(&full, 8)),
+            typical_text: Text::new(include_bytes!("../../../examples/typical.hex")),
+            our_panel: bjorkneve::raw::panel_power_on(2, &mut [], 0),
+            reference_panel: reference::Panel::power_on(2, &mut [], 0),
             full,
             kinds: sections
                 .0
@@ -52,7 +75,7 @@ impl Inputs {
                 .iter()
                 .flat_map(|(_, body)| body.clone())
                 .collect(),
-            typical: typical(&mut random),
+            typical: typical(&mut random).image(),
             large: large(&mut random),
             our_counts: bjorkneve::Counts {
                 pressure: bjorkneve::Channel {
@@ -78,25 +101,38 @@ impl Inputs {
     }
 }
 
+/// The typical sections, and 13 that change no reading.
 fn full(random: &mut Random) -> Sections {
-    let head = 2 + 16 * 8;
-    let length = (IMAGE_LIMIT - head) / 16;
-    let mut sections = Sections::default();
-    for kind in 1..=15 {
-        sections.0.push((10 * kind, random.bytes(length)));
+    let mut sections = typical(random);
+    let rest = IMAGE_LIMIT - 13 * 8 - sections.length();
+    for number in 1..=13 {
+        let length = match number {
+            13 => rest - 12 * (rest / 13),
+            _ => rest / 13,
+        };
+        sections.0.push((130 + number, random.bytes(length)));
     }
-    let rest = IMAGE_LIMIT - head - 15 * length;
-    sections.0.push((160, random.bytes(rest)));
     sections
 }
 
-fn typical(random: &mut Random) -> Vec<u8> {
+/// A text of the image with so many data bytes in a record. It is used to the
+/// end of the program, and so never given back.
+fn text(image: &[u8], data: usize) -> &'static [u8] {
+    let mut records: Vec<Record> = image
+        .chunks(data)
+        .enumerate()
+        .map(|(number, bytes)| Record::new(number * data, 0, bytes))
+        .collect();
+    records.push(Record::new(0, 1, &[]));
+    Box::leak(compare::records::text(&records).into_boxed_slice())
+}
+
+fn typical(random: &mut Random) -> Sections {
     Sections(vec![
         (1, identity([-40, 125, 0, 16_000], random)),
         (2, set(3, 3, random).body()),
         (3, set(0, 3, random).body()),
     ])
-    .image()
 }
 
 fn large(random: &mut Random) -> Vec<u8> {

@@ -194,3 +194,51 @@ impl Panel {
         self.load = Load::Refused(refusal);
     }
 }
+
+#[cfg(test)]
+mod tests {
+    use super::*;
+
+    const DATA: &[u8] = b":0A0000005101C8000A0000000000D2\n";
+    const END: &[u8] = b":00000001FF\n";
+
+    #[test]
+    fn the_first_byte_is_withheld() {
+        let mut image = [9; 12];
+        let mut panel = Panel::power_on(1, &mut image, 0);
+        assert_eq!(
+            (panel.answer(), image),
+            (Some(Err(Refusal::plain(5))), [0; 12])
+        );
+        panel.begin(&mut image);
+        panel.line(DATA, &mut image);
+        assert_eq!((panel.answer(), image[0], image[2]), (None, 0, 0xC8));
+        panel.line(END, &mut image);
+        assert_eq!((panel.answer(), image[0], image[2]), (None, 0, 0xC8));
+        panel.end(&mut image);
+        let refused = Some(Err(Refusal::with(10, 1)));
+        assert_eq!((panel.answer(), image), (refused, [0; 12]));
+    }
+
+    #[test]
+    fn a_fault_stands() {
+        let mut image = [9; 12];
+        for (lines, fault) in [
+            (&[DATA, DATA][..], Refusal::with(3, 2)),
+            (&[DATA, b"", END], Refusal::with(FORM, 2)),
+            (&[DATA, END, END], Refusal::with(FORM, 3)),
+            (&[b":00000001FF\n:00000001FF\n"], Refusal::with(FORM, 1)),
+            (&[b":00000001FF"], Refusal::with(FORM, 1)),
+            (&[DATA], Refusal::with(FORM, 2)),
+            (&[], Refusal::with(FORM, 1)),
+        ] {
+            let mut panel = Panel::power_on(2, &mut image, 0);
+            panel.begin(&mut image);
+            lines.iter().for_each(|line| panel.line(line, &mut image));
+            panel.end(&mut image);
+            panel.line(END, &mut image);
+            panel.end(&mut image);
+            assert_eq!((panel.answer(), image), (Some(Err(fault)), [0; 12]));
+        }
+    }
+}

@@ -112,6 +112,7 @@ struct Record<'a> {
     rest: &'a [u8],
 }
 
+#[inline(always)]
 fn split_record(text: &[u8]) -> Option<Record<'_>> {
     let head: &[u8; 9] = text.get(..9)?.try_into().ok()?;
     if head[0] != b':' {
@@ -151,6 +152,7 @@ fn split(text: &[u8], at: usize) -> Option<(&[u8], &[u8])> {
     }
 }
 
+#[inline(always)]
 fn decode_into(digits: &[u8], bytes: &mut [u8]) -> Decoded {
     let mut sum = 0_u8;
     let mut wrong = 0;
