@@ -27,17 +27,9 @@ impl Text {
 }
 
 pub struct Inputs {
-    /// Texts of the full image with so many data bytes in a record. The
-    /// writer makes 16.
-    pub text: Text,
-    pub text_32: Text,
-    pub text_8: Text,
-    /// The text of examples/typical.hex.
-    pub typical_text: Text,
-    /// A panel of level 2 without an image.
-    pub our_panel: bjorkneve::raw::BjorknevePanel,
-    pub reference_panel: reference::Panel,
-    /// Sixteen sections, 4,096 bytes, accepted by level 2.
+    /// A text of the full image, as the writer makes it.
+    pub text: &'static [u8],
+    /// Sixteen sections, 4,096 bytes.
     pub full: Vec<u8>,
     /// What the full image is built from.
     pub kinds: Vec<u32>,
@@ -49,6 +41,16 @@ pub struct Inputs {
     pub large: Vec<u8>,
     pub our_counts: bjorkneve::Counts,
     pub reference_counts: reference::Counts,
+    /// Texts of another image of sixteen sections and 4,096 bytes, one that
+    /// level 2 accepts, with so many data bytes in a record.
+    pub load_16: Text,
+    pub load_32: Text,
+    pub load_8: Text,
+    /// The text of examples/typical.hex.
+    pub load_typical: Text,
+    /// A panel of level 2 without an image.
+    pub our_panel: bjorkneve::raw::BjorknevePanel,
+    pub reference_panel: reference::Panel,
 }
 
 impl Inputs {
@@ -56,13 +58,9 @@ impl Inputs {
         let mut random = Random::new(7);
         let sections = full(&mut random);
         let full = sections.image();
+        let accepted = accepted(&mut Random::new(17)).image();
         Self {
-            text: Text::new(text(&full, 16)),
-            text_32: Text::new(text(&full, 32)),
-            text_8: Text::new(text(&full, 8)),
-            typical_text: Text::new(include_bytes!("../../../examples/typical.hex")),
-            our_panel: bjorkneve::raw::panel_power_on(2, &mut [], 0),
-            reference_panel: reference::Panel::power_on(2, &mut [], 0),
+            text: text(&full, 16),
             full,
             kinds: sections
                 .0
@@ -97,21 +95,37 @@ impl Inputs {
                     reference: reference::ReferenceCycles(TEMPERATURE.1),
                 },
             },
+            load_16: Text::new(text(&accepted, 16)),
+            load_32: Text::new(text(&accepted, 32)),
+            load_8: Text::new(text(&accepted, 8)),
+            load_typical: Text::new(include_bytes!("../../../examples/typical.hex")),
+            our_panel: bjorkneve::raw::panel_power_on(2, &mut [], 0),
+            reference_panel: reference::Panel::power_on(2, &mut [], 0),
         }
     }
 }
 
-/// The typical sections, and 13 that change no reading.
 fn full(random: &mut Random) -> Sections {
+    let head = 2 + 16 * 8;
+    let length = (IMAGE_LIMIT - head) / 16;
+    let mut sections = Sections::default();
+    for kind in 1..=15 {
+        sections.0.push((10 * kind, random.bytes(length)));
+    }
+    let rest = IMAGE_LIMIT - head - 15 * length;
+    sections.0.push((160, random.bytes(rest)));
+    sections
+}
+
+/// The typical sections, and 13 that change no reading.
+fn accepted(random: &mut Random) -> Sections {
     let mut sections = typical(random);
     let rest = IMAGE_LIMIT - 13 * 8 - sections.length();
-    for number in 1..=13 {
-        let length = match number {
-            13 => rest - 12 * (rest / 13),
-            _ => rest / 13,
-        };
-        sections.0.push((130 + number, random.bytes(length)));
+    for kind in 131..=142 {
+        sections.0.push((kind, random.bytes(rest / 13)));
     }
+    let last = rest - 12 * (rest / 13);
+    sections.0.push((143, random.bytes(last)));
     sections
 }
 

@@ -5,39 +5,39 @@ use crate::opaque::opaque;
 use bjorkneve::{raw, Counts, Level, Reading, Refusal};
 
 pub fn read(inputs: &Inputs, image: &mut [u8]) -> u64 {
-    filled(bjorkneve::read(opaque(inputs.text.whole), image))
+    filled(bjorkneve::read(opaque(inputs.text), image))
 }
 
 pub fn load(inputs: &Inputs, image: &mut [u8]) -> u64 {
-    load_whole(&inputs.text, image)
+    load_whole(&inputs.load_16, image)
 }
 
 pub fn load_lines(inputs: &Inputs, image: &mut [u8]) -> u64 {
-    load_by_lines(inputs, &inputs.text, image)
+    load_by_lines(inputs, &inputs.load_16, image)
 }
 
 pub fn load_typical(inputs: &Inputs, image: &mut [u8]) -> u64 {
-    load_whole(&inputs.typical_text, image)
+    load_whole(&inputs.load_typical, image)
 }
 
 pub fn load_typical_lines(inputs: &Inputs, image: &mut [u8]) -> u64 {
-    load_by_lines(inputs, &inputs.typical_text, image)
+    load_by_lines(inputs, &inputs.load_typical, image)
 }
 
 pub fn load_32(inputs: &Inputs, image: &mut [u8]) -> u64 {
-    load_whole(&inputs.text_32, image)
+    load_whole(&inputs.load_32, image)
 }
 
 pub fn load_32_lines(inputs: &Inputs, image: &mut [u8]) -> u64 {
-    load_by_lines(inputs, &inputs.text_32, image)
+    load_by_lines(inputs, &inputs.load_32, image)
 }
 
 pub fn load_8(inputs: &Inputs, image: &mut [u8]) -> u64 {
-    load_whole(&inputs.text_8, image)
+    load_whole(&inputs.load_8, image)
 }
 
 pub fn load_8_lines(inputs: &Inputs, image: &mut [u8]) -> u64 {
-    load_by_lines(inputs, &inputs.text_8, image)
+    load_by_lines(inputs, &inputs.load_8, image)
 }
 
 #[inline(always)]

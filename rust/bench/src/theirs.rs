@@ -5,23 +5,23 @@ use crate::opaque::opaque;
 use reference::{Counts, Reading, Refusal};
 
 pub fn read(inputs: &Inputs, image: &mut [u8]) -> u64 {
-    filled(reference::read(opaque(inputs.text.whole), image))
+    filled(reference::read(opaque(inputs.text), image))
 }
 
 pub fn load(inputs: &Inputs, image: &mut [u8]) -> u64 {
-    load_whole(&inputs.text, image)
+    load_whole(&inputs.load_16, image)
 }
 
 pub fn load_lines(inputs: &Inputs, image: &mut [u8]) -> u64 {
-    load_by_lines(inputs, &inputs.text, image)
+    load_by_lines(inputs, &inputs.load_16, image)
 }
 
 pub fn load_typical(inputs: &Inputs, image: &mut [u8]) -> u64 {
-    load_whole(&inputs.typical_text, image)
+    load_whole(&inputs.load_typical, image)
 }
 
 pub fn load_typical_lines(inputs: &Inputs, image: &mut [u8]) -> u64 {
-    load_by_lines(inputs, &inputs.typical_text, image)
+    load_by_lines(inputs, &inputs.load_typical, image)
 }
 
 #[inline(always)]
