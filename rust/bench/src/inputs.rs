@@ -2,6 +2,7 @@
 
 use compare::bodies::{identity, note, trim};
 use compare::random::Random;
+use compare::records::Record;
 use compare::sections::Sections;
 use compare::sets::{Prescale, Set};
 use compare::IMAGE_LIMIT;
@@ -10,9 +11,24 @@ use compare::IMAGE_LIMIT;
 const PRESSURE: (u64, u64) = (10_000, 2_000_000);
 const TEMPERATURE: (u64, u64) = (10_000, 1_800_000);
 
+/// A text and its lines, found beforehand.
+pub struct Text {
+    pub whole: &'static [u8],
+    pub lines: Vec<&'static [u8]>,
+}
+
+impl Text {
+    fn new(whole: &'static [u8]) -> Self {
+        Self {
+            whole,
+            lines: whole.split_inclusive(|byte| *byte == b'\n').collect(),
+        }
+    }
+}
+
 pub struct Inputs {
     /// A text of the full image, as the writer makes it.
-    pub text: Vec<u8>,
+    pub text: &'static [u8],
     /// Sixteen sections, 4,096 bytes.
     pub full: Vec<u8>,
     /// What the full image is built from.
@@ -25,6 +41,16 @@ pub struct Inputs {
     pub large: Vec<u8>,
     pub our_counts: bjorkneve::Counts,
     pub reference_counts: reference::Counts,
+    /// Texts of another image of sixteen sections and 4,096 bytes, one that
+    /// level 2 accepts, with so many data bytes in a record.
+    pub load_16: Text,
+    pub load_32: Text,
+    pub load_8: Text,
+    /// The text of examples/typical.hex.
+    pub load_typical: Text,
+    /// A panel of level 2 without an image.
+    pub our_panel: bjorkneve::raw::BjorknevePanel,
+    pub reference_panel: reference::Panel,
 }
 
 impl Inputs {
@@ -32,14 +58,9 @@ impl Inputs {
         let mut random = Random::new(7);
         let sections = full(&mut random);
         let full = sections.image();
-        let mut text = vec![0; 3 * IMAGE_LIMIT];
-        let length = match reference::write(&full, &mut text) {
-            Ok(length) => length,
-            Err(refusal) => panic!("the full image isn't written: {:?}", refusal),
-        };
-        text.truncate(length);
+        let accepted = accepted(&mut Random::new(17)).image();
         Self {
-            text,
+            text: text(&full, 16),
             full,
             kinds: sections
                 .0
@@ -52,7 +73,7 @@ impl Inputs {
                 .iter()
                 .flat_map(|(_, body)| body.clone())
                 .collect(),
-            typical: typical(&mut random),
+            typical: typical(&mut random).image(),
             large: large(&mut random),
             our_counts: bjorkneve::Counts {
                 pressure: bjorkneve::Channel {
@@ -74,6 +95,12 @@ impl Inputs {
                     reference: reference::ReferenceCycles(TEMPERATURE.1),
                 },
             },
+            load_16: Text::new(text(&accepted, 16)),
+            load_32: Text::new(text(&accepted, 32)),
+            load_8: Text::new(text(&accepted, 8)),
+            load_typical: Text::new(include_bytes!("../../../examples/typical.hex")),
+            our_panel: bjorkneve::raw::panel_power_on(2, &mut [], 0),
+            reference_panel: reference::Panel::power_on(2, &mut [], 0),
         }
     }
 }
@@ -90,13 +117,36 @@ fn full(random: &mut Random) -> Sections {
     sections
 }
 
-fn typical(random: &mut Random) -> Vec<u8> {
+/// The typical sections, and 13 that change no reading.
+fn accepted(random: &mut Random) -> Sections {
+    let mut sections = typical(random);
+    let rest = IMAGE_LIMIT - 13 * 8 - sections.length();
+    for kind in 131..=142 {
+        sections.0.push((kind, random.bytes(rest / 13)));
+    }
+    let last = rest - 12 * (rest / 13);
+    sections.0.push((143, random.bytes(last)));
+    sections
+}
+
+/// A text of the image with so many data bytes in a record. It is used to the
+/// end of the program, and so never given back.
+fn text(image: &[u8], data: usize) -> &'static [u8] {
+    let mut records: Vec<Record> = image
+        .chunks(data)
+        .enumerate()
+        .map(|(number, bytes)| Record::new(number * data, 0, bytes))
+        .collect();
+    records.push(Record::new(0, 1, &[]));
+    Box::leak(compare::records::text(&records).into_boxed_slice())
+}
+
+fn typical(random: &mut Random) -> Sections {
     Sections(vec![
         (1, identity([-40, 125, 0, 16_000], random)),
         (2, set(3, 3, random).body()),
         (3, set(0, 3, random).body()),
     ])
-    .image()
 }
 
 fn large(random: &mut Random) -> Vec<u8> {

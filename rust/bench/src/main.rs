@@ -1,6 +1,7 @@
 //! Times of the archive's calls beside the reference's, measured turn about.
 //!
-//! `bench` prints a table. `bench once CALL WHO N` makes one call N times and
+//! `bench` prints two tables; the second has loads by lines beside loads of
+//! the whole text. `bench once CALL WHO N` makes one call N times and
 //! prints nothing but its answers' sum: count the instructions of N + 1 and of
 //! N calls, and the difference is one call's. WHO is `ours` or `reference`.
 
@@ -11,7 +12,7 @@ mod opaque;
 mod ours;
 mod theirs;
 
-use calls::{Call, CALLS};
+use calls::{Call, CALLS, IMAGE, LOADS};
 use inputs::Inputs;
 use std::env;
 use std::process::exit;
@@ -21,30 +22,45 @@ fn main() {
     let words: Vec<&str> = arguments.iter().map(String::as_str).collect();
     let inputs = Inputs::new();
     match words[..] {
-        [] => table(&inputs),
+        [] => tables(&inputs),
         ["once", call, who, times] => once(&inputs, call, who, times),
         _ => usage(),
     }
 }
 
-fn table(inputs: &Inputs) {
+fn tables(inputs: &Inputs) {
     println!("Nanoseconds a call: the median of blocks that alternate between the two.");
     println!("Lent buffers are made dirty before each block, outside the timed part.");
     println!();
-    println!(
-        "{:<44} {:>10} {:>10} {:>6}",
-        "call", "ours", "reference", "ratio"
-    );
+    heading("call", "ours", "reference");
     for call in &CALLS {
-        let times = measure::turn_about(call, inputs);
-        println!(
-            "{:<44} {:>10.1} {:>10.1} {:>6.2}",
-            call.title,
-            times.ours,
-            times.reference,
-            times.ours / times.reference
-        );
+        let times = measure::turn_about(call.ours, call.reference, call.output, inputs);
+        row(call.title, times);
     }
+    println!();
+    println!(
+        "Ours alone: begin, a call for each line, and end, beside the load of the whole text."
+    );
+    println!();
+    heading("text", "by lines", "whole");
+    for loads in &LOADS {
+        let times = measure::turn_about(loads.by_lines, loads.whole, IMAGE, inputs);
+        row(loads.title, times);
+    }
+}
+
+fn heading(what: &str, one: &str, other: &str) {
+    println!("{:<44} {:>10} {:>10} {:>6}", what, one, other, "ratio");
+}
+
+fn row(title: &str, (one, other): (f64, f64)) {
+    println!(
+        "{:<44} {:>10.1} {:>10.1} {:>6.2}",
+        title,
+        one,
+        other,
+        one / other
+    );
 }
 
 fn once(inputs: &Inputs, name: &str, who: &str, times: &str) {

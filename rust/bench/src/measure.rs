@@ -1,6 +1,6 @@
 //! Timing in blocks that alternate between the two sides.
 
-use crate::calls::{Call, Side};
+use crate::calls::Side;
 use crate::inputs::Inputs;
 use std::time::Instant;
 
@@ -12,36 +12,28 @@ const LENDING: usize = 4;
 /// Calls of a block without lent buffers.
 const PLAIN: usize = 32;
 
-/// Nanoseconds a call.
-pub struct Times {
-    pub ours: f64,
-    pub reference: f64,
-}
-
-/// The medians of both sides, less what an empty block takes.
-pub fn turn_about(call: &Call, inputs: &Inputs) -> Times {
-    let calls = if call.output == 0 { PLAIN } else { LENDING };
-    let mut buffers = vec![vec![0; call.output]; calls];
-    let mut ours = Vec::with_capacity(BLOCKS);
-    let mut reference = Vec::with_capacity(BLOCKS);
+/// The medians of both sides in nanoseconds a call, less what an empty block
+/// takes. The lent buffers have so many bytes; 0 for a call without one.
+pub fn turn_about(one: Side, other: Side, output: usize, inputs: &Inputs) -> (f64, f64) {
+    let calls = if output == 0 { PLAIN } else { LENDING };
+    let mut buffers = vec![vec![0; output]; calls];
+    let mut ones = Vec::with_capacity(BLOCKS);
+    let mut others = Vec::with_capacity(BLOCKS);
     let mut empty = Vec::with_capacity(BLOCKS);
     for number in 0..BLOCKS {
         // Either side goes first in every other turn.
         if number % 2 == 0 {
-            ours.push(block(call.ours, inputs, &mut buffers));
-            reference.push(block(call.reference, inputs, &mut buffers));
+            ones.push(block(one, inputs, &mut buffers));
+            others.push(block(other, inputs, &mut buffers));
         } else {
-            reference.push(block(call.reference, inputs, &mut buffers));
-            ours.push(block(call.ours, inputs, &mut buffers));
+            others.push(block(other, inputs, &mut buffers));
+            ones.push(block(one, inputs, &mut buffers));
         }
-        empty.push(block(call.ours, inputs, &mut []));
+        empty.push(block(one, inputs, &mut []));
     }
     let empty = median(empty);
     let each = |blocks| (median(blocks) - empty) / calls as f64;
-    Times {
-        ours: each(ours),
-        reference: each(reference),
-    }
+    (each(ones), each(others))
 }
 
 fn block(side: Side, inputs: &Inputs, buffers: &mut [Vec<u8>]) -> f64 {

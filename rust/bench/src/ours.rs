@@ -1,11 +1,63 @@
 //! The archive's calls, each as `theirs` makes the reference's.
 
-use crate::inputs::Inputs;
+use crate::inputs::{Inputs, Text};
 use crate::opaque::opaque;
-use bjorkneve::{Counts, Level, Reading, Refusal};
+use bjorkneve::{raw, Counts, Level, Reading, Refusal};
 
 pub fn read(inputs: &Inputs, image: &mut [u8]) -> u64 {
-    filled(bjorkneve::read(opaque(&inputs.text), image))
+    filled(bjorkneve::read(opaque(inputs.text), image))
+}
+
+pub fn load(inputs: &Inputs, image: &mut [u8]) -> u64 {
+    load_whole(&inputs.load_16, image)
+}
+
+pub fn load_lines(inputs: &Inputs, image: &mut [u8]) -> u64 {
+    load_by_lines(inputs, &inputs.load_16, image)
+}
+
+pub fn load_typical(inputs: &Inputs, image: &mut [u8]) -> u64 {
+    load_whole(&inputs.load_typical, image)
+}
+
+pub fn load_typical_lines(inputs: &Inputs, image: &mut [u8]) -> u64 {
+    load_by_lines(inputs, &inputs.load_typical, image)
+}
+
+pub fn load_32(inputs: &Inputs, image: &mut [u8]) -> u64 {
+    load_whole(&inputs.load_32, image)
+}
+
+pub fn load_32_lines(inputs: &Inputs, image: &mut [u8]) -> u64 {
+    load_by_lines(inputs, &inputs.load_32, image)
+}
+
+pub fn load_8(inputs: &Inputs, image: &mut [u8]) -> u64 {
+    load_whole(&inputs.load_8, image)
+}
+
+pub fn load_8_lines(inputs: &Inputs, image: &mut [u8]) -> u64 {
+    load_by_lines(inputs, &inputs.load_8, image)
+}
+
+#[inline(always)]
+fn load_whole(text: &Text, image: &mut [u8]) -> u64 {
+    filled(bjorkneve::load(
+        opaque(text.whole),
+        opaque(Level::Two),
+        image,
+    ))
+}
+
+/// By the calls themselves: a `Panel` would be powered on for each buffer.
+#[inline(always)]
+fn load_by_lines(inputs: &Inputs, text: &Text, image: &mut [u8]) -> u64 {
+    let mut panel = raw::panel_begin(opaque(inputs.our_panel), image);
+    for line in opaque(&text.lines) {
+        panel = raw::panel_line(panel, line, image);
+    }
+    let panel = raw::panel_end(panel, image);
+    filled(raw::panel_status(panel).part(image))
 }
 
 pub fn write(inputs: &Inputs, text: &mut [u8]) -> u64 {

@@ -1,11 +1,46 @@
 //! The reference's calls, each as `ours` makes the archive's.
 
-use crate::inputs::Inputs;
+use crate::inputs::{Inputs, Text};
 use crate::opaque::opaque;
 use reference::{Counts, Reading, Refusal};
 
 pub fn read(inputs: &Inputs, image: &mut [u8]) -> u64 {
-    filled(reference::read(opaque(&inputs.text), image))
+    filled(reference::read(opaque(inputs.text), image))
+}
+
+pub fn load(inputs: &Inputs, image: &mut [u8]) -> u64 {
+    load_whole(&inputs.load_16, image)
+}
+
+pub fn load_lines(inputs: &Inputs, image: &mut [u8]) -> u64 {
+    load_by_lines(inputs, &inputs.load_16, image)
+}
+
+pub fn load_typical(inputs: &Inputs, image: &mut [u8]) -> u64 {
+    load_whole(&inputs.load_typical, image)
+}
+
+pub fn load_typical_lines(inputs: &Inputs, image: &mut [u8]) -> u64 {
+    load_by_lines(inputs, &inputs.load_typical, image)
+}
+
+#[inline(always)]
+fn load_whole(text: &Text, image: &mut [u8]) -> u64 {
+    filled(reference::load(opaque(text.whole), opaque(2), image))
+}
+
+#[inline(always)]
+fn load_by_lines(inputs: &Inputs, text: &Text, image: &mut [u8]) -> u64 {
+    let mut panel = opaque(inputs.reference_panel);
+    panel.begin(image);
+    for line in opaque(&text.lines) {
+        panel.line(line, image);
+    }
+    panel.end(image);
+    match panel.answer() {
+        Some(answer) => filled(answer),
+        None => panic!("the load is under way"),
+    }
 }
 
 pub fn write(inputs: &Inputs, text: &mut [u8]) -> u64 {

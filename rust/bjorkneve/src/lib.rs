@@ -41,15 +41,21 @@ pub mod raw;
 
 mod card;
 mod counts;
+mod gauge;
 mod image;
 mod level;
+mod loading;
+mod panel;
 mod reading;
 mod refusal;
 mod text;
 
 pub use counts::{Channel, Counts, ReferenceCycles, SensorCycles};
+pub use gauge::Gauge;
 pub use image::{build, find, layout, place, verdict, LARGEST_IMAGE};
 pub use level::Level;
+pub use loading::Loading;
+pub use panel::Panel;
 pub use reading::{reading, Mark, Reading, Unit};
 pub use refusal::{refused, Refusal};
-pub use text::{load, read, write, LONGEST_SHOWN_TEXT, LONGEST_WRITTEN_TEXT};
+pub use text::{load, read, write, LONGEST_LINE, LONGEST_SHOWN_TEXT, LONGEST_WRITTEN_TEXT};

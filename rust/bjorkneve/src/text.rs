@@ -11,6 +11,15 @@ use crate::{card, raw, Level, Refusal};
 /// ```
 pub const LONGEST_WRITTEN_TEXT: usize = card::LONGEST_WRITTEN_TEXT;
 
+/// Bytes of the longest line of a text that can be good, with CR and LF: room
+/// for a line on its way from a port to [`Loading::line`](crate::Loading::line).
+///
+/// ```
+/// let digits = 2 * (1 + 2 + 1 + 255 + 1); // count, address, type, data, checksum
+/// assert_eq!(bjorkneve::LONGEST_LINE, ":".len() + digits + "\r\n".len());
+/// ```
+pub const LONGEST_LINE: usize = card::LONGEST_LINE;
+
 /// Bytes of the longest text that the show program takes. The library takes
 /// longer ones too.
 ///

@@ -185,23 +185,10 @@ pub fn find(image: &[u8], kind: u32) -> Option<Range<usize>> {
 
 /// Takes a reading.
 pub fn reading(image: &[u8], level: u32, counts: reference::Counts) -> Answer<reference::Reading> {
-    let channel = |counts: reference::Channel| bjorkneve::Channel {
-        sensor: bjorkneve::SensorCycles(counts.sensor.0),
-        reference: bjorkneve::ReferenceCycles(counts.reference.0),
-    };
-    let our_counts = bjorkneve::Counts {
-        pressure: channel(counts.pressure),
-        temperature: channel(counts.temperature),
-    };
-    let told = raw::reading(image, level, our_counts);
+    let told = our_reading(raw::reading(image, level, our_counts(counts)));
     let ours = Level::try_from(level)
-        .and_then(|level| bjorkneve::reading(image, level, our_counts))
-        .map(|reading| reference::Reading {
-            pressure: reading.pressure,
-            temperature: reading.temperature,
-            unit: reading.unit.into(),
-            mark: reading.mark.0,
-        })
+        .and_then(|level| bjorkneve::reading(image, level, our_counts(counts)))
+        .map(as_reference)
         .map_err(ours_refusal);
     let theirs = reference::reading(image, level, counts).map_err(their_refusal);
     assert_eq!(
@@ -210,24 +197,47 @@ pub fn reading(image: &[u8], level: u32, counts: reference::Counts) -> Answer<re
         "ours, the reference's: level {level} {counts:?} image {}",
         Hex(image)
     );
-    let values = (told.pressure, told.temperature, told.unit, told.mark);
-    match &ours {
-        Ok(reading) => {
-            assert_eq!((told.number, told.detail), (0, 0));
-            let shown = (
-                reading.pressure,
-                reading.temperature,
-                reading.unit,
-                reading.mark,
-            );
-            assert_eq!(values, shown);
-        }
-        Err(refusal) => {
-            assert_eq!((told.number, told.detail), *refusal);
-            assert_eq!(values, (0, 0, 0, 0), "a refusal with a value");
-        }
-    }
+    assert_eq!(told, ours);
     ours
+}
+
+/// Counts as the archive takes them.
+pub fn our_counts(counts: reference::Counts) -> bjorkneve::Counts {
+    let channel = |counts: reference::Channel| bjorkneve::Channel {
+        sensor: bjorkneve::SensorCycles(counts.sensor.0),
+        reference: bjorkneve::ReferenceCycles(counts.reference.0),
+    };
+    bjorkneve::Counts {
+        pressure: channel(counts.pressure),
+        temperature: channel(counts.temperature),
+    }
+}
+
+/// A reading of the archive, every number of it looked at.
+pub fn our_reading(told: raw::BjorkneveAnswer) -> Answer<reference::Reading> {
+    let reading = reference::Reading {
+        pressure: told.pressure,
+        temperature: told.temperature,
+        unit: told.unit,
+        mark: told.mark,
+    };
+    if told.number == 0 {
+        assert_eq!(told.detail, 0);
+        return Ok(reading);
+    }
+    let values = (told.pressure, told.temperature, told.unit, told.mark);
+    assert_eq!(values, (0, 0, 0, 0), "a refusal with a value");
+    Err((told.number, told.detail))
+}
+
+/// A reading of the door as the reference has it.
+pub fn as_reference(reading: bjorkneve::Reading) -> reference::Reading {
+    reference::Reading {
+        pressure: reading.pressure,
+        temperature: reading.temperature,
+        unit: reading.unit.into(),
+        mark: reading.mark.0,
+    }
 }
 
 fn judged(
@@ -243,11 +253,13 @@ fn judged(
     ours
 }
 
-fn ours_refusal(refusal: bjorkneve::Refusal) -> (u32, u64) {
+/// A refusal of the archive or the door, which the fault card has words for.
+pub fn ours_refusal(refusal: bjorkneve::Refusal) -> (u32, u64) {
     assert!(refusal.what_happened().is_some(), "no words: {refusal}");
     (refusal.number, refusal.detail)
 }
 
-fn their_refusal(refusal: reference::Refusal) -> (u32, u64) {
+/// A refusal of the reference.
+pub fn their_refusal(refusal: reference::Refusal) -> (u32, u64) {
     (refusal.number, refusal.detail)
 }

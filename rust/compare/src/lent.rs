@@ -35,15 +35,25 @@ impl Lent {
         &self.bytes[self.start..self.start + self.size]
     }
 
+    /// The part last lent, as it was left.
+    pub fn again(&mut self) -> &mut [u8] {
+        &mut self.bytes[self.start..self.start + self.size]
+    }
+
     /// Checks the guards, and that the part is zero past `length`.
     pub fn check(&self, length: usize) {
+        self.check_guards();
+        assert!(length <= self.size, "more was filled than was lent");
+        let clean = self.part()[length..].iter().all(|byte| *byte == 0);
+        assert!(clean, "the rest of the lent part isn't zero");
+    }
+
+    /// Checks that nothing beside the part was changed.
+    pub fn check_guards(&self) {
         let before = &self.bytes[..self.start];
         let after = &self.bytes[self.start + self.size..][..GUARD];
         let untouched = before.iter().chain(after).all(|byte| *byte == GUARD_BYTE);
         assert!(untouched, "a byte beside the lent part was changed");
-        assert!(length <= self.size, "more was filled than was lent");
-        let clean = self.part()[length..].iter().all(|byte| *byte == 0);
-        assert!(clean, "the rest of the lent part isn't zero");
     }
 }
 

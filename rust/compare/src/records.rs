@@ -24,7 +24,8 @@ pub enum Letters {
 }
 
 impl Record {
-    fn new(address: usize, kind: u8, data: &[u8]) -> Self {
+    /// A record in upper case, with LF.
+    pub fn new(address: usize, kind: u8, data: &[u8]) -> Self {
         Self {
             count: data.len() as u8,
             address: address as u16,

@@ -75,6 +75,30 @@ fn no_address() {
         };
         let reading = raw::bjorkneve_reading(null(), 0, 1, counts);
         assert_eq!((reading.number, reading.detail), (5, 0));
+
+        let refused = |panel| {
+            let status = raw::bjorkneve_panel_status(panel);
+            assert!(!status.lamp);
+            (status.number, status.detail)
+        };
+        let panel = raw::bjorkneve_panel_power_on(1, null_mut(), 0, u64::MAX);
+        assert_eq!(refused(panel), (5, 0));
+        let loaded = raw::bjorkneve_panel_load(panel, null(), 0, null_mut(), 0);
+        assert_eq!(refused(loaded), (1, 1));
+        let begun = raw::bjorkneve_panel_begin(panel, null_mut(), 0);
+        assert_eq!(refused(begun), (0, 0));
+        let stopped = raw::bjorkneve_panel_line(begun, null(), 0, null_mut(), 0);
+        assert_eq!(refused(stopped), (1, 1));
+        let whole = raw::bjorkneve_panel_line(begun, end.as_ptr(), length, null_mut(), 0);
+        assert_eq!(refused(whole), (0, 0));
+        let ended = raw::bjorkneve_panel_end(whole, null_mut(), 0);
+        assert_eq!(refused(ended), (5, 0));
+        for panel in [panel, loaded, begun, stopped, whole, ended] {
+            let reading = raw::bjorkneve_panel_reading(panel, null(), 0, counts);
+            assert_eq!((reading.number, reading.detail), (5, 0));
+            let gauge = raw::bjorkneve_panel_gauge(panel, null(), 0);
+            assert_eq!((gauge.number, gauge.detail), (5, 0));
+        }
     }
     assert_eq!(end, END);
 }

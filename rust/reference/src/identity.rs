@@ -1,5 +1,19 @@
-/// The limits of an accepted identity; its other fields change no reading.
+/// The gauge that an image is for.
+#[derive(Debug, Clone, Copy, PartialEq, Eq)]
+pub struct Gauge {
+    /// Its serial number.
+    pub serial: u32,
+    /// The year of its calibration.
+    pub year: u16,
+    /// The month, 1 to 12.
+    pub month: u8,
+    /// The day, from 1.
+    pub day: u8,
+}
+
+/// An accepted identity: the gauge, and its limits.
 pub(crate) struct Identity {
+    pub(crate) gauge: Gauge,
     pub(crate) lowest_temperature: i32,
     pub(crate) highest_temperature: i32,
     pub(crate) lowest_pressure: i32,
@@ -16,6 +30,12 @@ impl Identity {
         let signed =
             |at: usize| i32::from_le_bytes([body[at], body[at + 1], body[at + 2], body[at + 3]]);
         let identity = Self {
+            gauge: Gauge {
+                serial: u32::from_le_bytes([body[0], body[1], body[2], body[3]]),
+                year,
+                month: body[6],
+                day: body[7],
+            },
             lowest_temperature: signed(8),
             highest_temperature: signed(12),
             lowest_pressure: signed(16),

@@ -1,5 +1,5 @@
-//! The rules of document 01 as a firmware engineer would write them by hand:
-//! no allocation, no `unsafe`, early returns, one pass where the order of the
+//! The rules of document 01 as a firmware engineer would write them by hand,
+//! and a panel over them that loads whole texts or lines: no allocation, no `unsafe`, early returns, one pass where the order of the
 //! checks allows it. Nothing here is proved; it is a second opinion on the
 //! proved build and a yardstick for its speed.
 
@@ -12,6 +12,7 @@ mod counts;
 mod identity;
 mod layout;
 mod note;
+mod panel;
 mod reader;
 mod reading;
 mod refusal;
@@ -25,7 +26,9 @@ mod examples;
 
 pub use builder::build;
 pub use counts::{Channel, Counts, ReferenceCycles, SensorCycles};
+pub use identity::Gauge;
 pub use layout::{find, layout};
+pub use panel::Panel;
 pub use reader::{load, read};
 pub use reading::{reading, Reading};
 pub use refusal::Refusal;

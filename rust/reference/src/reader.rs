@@ -1,6 +1,6 @@
 use crate::{verdict, Refusal, IMAGE_LIMIT};
 
-const FORM: u32 = 1;
+pub(crate) const FORM: u32 = 1;
 const CHECKSUM: u32 = 2;
 const MEANING: u32 = 3;
 const ROOM: u32 = 4;
@@ -30,7 +30,6 @@ pub fn load(text: &[u8], level: u32, image: &mut [u8]) -> Result<usize, Refusal>
 }
 
 fn read_records(mut text: &[u8], image: &mut [u8]) -> Result<usize, Refusal> {
-    let room = image.len().min(IMAGE_LIMIT);
     let mut filled = 0;
     let mut line = 0;
     loop {
@@ -41,36 +40,60 @@ fn read_records(mut text: &[u8], image: &mut [u8]) -> Result<usize, Refusal> {
             Some(record) => record,
             None => return refuse(FORM),
         };
-        let end = filled + record.data.len() / 2;
-        let data = if end <= room {
-            decode_into(record.data, &mut image[filled..end])
-        } else {
-            decode(record.data)
-        };
-        if record.ends.wrong || data.wrong {
-            return refuse(FORM);
+        match take_record(&record, filled, image) {
+            Ok(Said::Data { end }) => filled = end,
+            // The line end of the last record is the end of the text.
+            Ok(Said::End) if record.rest.is_empty() => return Ok(filled),
+            Ok(Said::End) => return Err(Refusal::with(FORM, line + 1)),
+            Err(number) => return refuse(number),
         }
-        if record.ends.sum.wrapping_add(data.sum) != 0 {
-            return refuse(CHECKSUM);
-        }
-        match record.kind {
-            0 if end != filled && usize::from(record.address) == filled => {}
-            1 if end == filled && record.address == 0 => {
-                // The line end of the last record is the end of the text.
-                return if record.rest.is_empty() {
-                    Ok(filled)
-                } else {
-                    Err(Refusal::with(FORM, line + 1))
-                };
-            }
-            _ => return refuse(MEANING),
-        }
-        if end > room {
-            return refuse(ROOM);
-        }
-        filled = end;
         text = record.rest;
     }
+}
+
+/// Reads one line of a text into `image`, of which so many bytes are filled:
+/// what it says, or the number of its fault.
+pub(crate) fn read_line(line: &[u8], filled: usize, image: &mut [u8]) -> Result<Said, u32> {
+    match split_record(line) {
+        Some(record) if record.rest.is_empty() => take_record(&record, filled, image),
+        _ => Err(FORM),
+    }
+}
+
+/// What a good record says.
+pub(crate) enum Said {
+    /// The image goes on up to here.
+    Data { end: usize },
+    /// The text ends.
+    End,
+}
+
+/// Judges a record and puts its data into `image`, of which so many bytes are
+/// filled. After a fault, what stands there may be wrong.
+#[inline(always)]
+fn take_record(record: &Record<'_>, filled: usize, image: &mut [u8]) -> Result<Said, u32> {
+    let room = image.len().min(IMAGE_LIMIT);
+    let end = filled + record.data.len() / 2;
+    let data = if end <= room {
+        decode_into(record.data, &mut image[filled..end])
+    } else {
+        decode(record.data)
+    };
+    if record.ends.wrong || data.wrong {
+        return Err(FORM);
+    }
+    if record.ends.sum.wrapping_add(data.sum) != 0 {
+        return Err(CHECKSUM);
+    }
+    match record.kind {
+        0 if end != filled && usize::from(record.address) == filled => {}
+        1 if end == filled && record.address == 0 => return Ok(Said::End),
+        _ => return Err(MEANING),
+    }
+    if end > room {
+        return Err(ROOM);
+    }
+    Ok(Said::Data { end })
 }
 
 /// The sum of decoded bytes, and whether a character was no digit.
@@ -89,6 +112,7 @@ struct Record<'a> {
     rest: &'a [u8],
 }
 
+#[inline(always)]
 fn split_record(text: &[u8]) -> Option<Record<'_>> {
     let head: &[u8; 9] = text.get(..9)?.try_into().ok()?;
     if head[0] != b':' {
@@ -128,6 +152,7 @@ fn split(text: &[u8], at: usize) -> Option<(&[u8], &[u8])> {
     }
 }
 
+#[inline(always)]
 fn decode_into(digits: &[u8], bytes: &mut [u8]) -> Decoded {
     let mut sum = 0_u8;
     let mut wrong = 0;

@@ -1,7 +1,7 @@
 //! The structs the C functions give back, as in the header. Number 0 is
 //! success.
 
-use crate::{refused, Mark, Reading, Refusal, Unit};
+use crate::{refused, Gauge, Mark, Reading, Refusal, Unit};
 use core::ops::Range;
 
 /// A judgement.
@@ -46,6 +46,43 @@ pub struct BjorknevePlace {
     pub length: u64,
 }
 
+/// A panel, which its caller keeps from call to call. Any fields get an answer.
+#[repr(C)]
+#[derive(Debug, Clone, Copy, PartialEq, Eq)]
+#[allow(missing_docs)]
+pub struct BjorknevePanel {
+    pub lines_or_detail: u64,
+    pub size_or_number: u32,
+    pub level: u8,
+    pub stage: u8,
+    pub first: u8,
+}
+
+/// How a panel's last load stands; all numbers are 0 while it is under way.
+#[repr(C)]
+#[derive(Debug, Clone, Copy, PartialEq, Eq)]
+#[allow(missing_docs)]
+pub struct BjorkneveStatus {
+    pub number: u32,
+    pub detail: u64,
+    pub length: u64,
+    pub lamp: bool,
+    pub level: u8,
+}
+
+/// The gauge of a panel's image.
+#[repr(C)]
+#[derive(Debug, Clone, Copy, PartialEq, Eq)]
+#[allow(missing_docs)]
+pub struct BjorkneveGauge {
+    pub number: u32,
+    pub detail: u64,
+    pub serial: u32,
+    pub year: u16,
+    pub month: u8,
+    pub day: u8,
+}
+
 #[inline]
 fn judged(number: u32, detail: u64) -> Result<(), Refusal> {
     match number {
@@ -68,9 +105,15 @@ impl BjorkneveFilled {
     #[inline]
     pub fn part(self, buffer: &[u8]) -> Result<&[u8], Refusal> {
         judged(self.number, self.detail)?;
-        let length = usize::try_from(self.length).unwrap_or(buffer.len());
-        Ok(&buffer[..length.min(buffer.len())])
+        Ok(start(self.length, buffer))
     }
+}
+
+/// The buffer's first bytes, so many of them or all that there are.
+#[inline]
+fn start(length: u64, buffer: &[u8]) -> &[u8] {
+    let length = usize::try_from(length).unwrap_or(buffer.len());
+    &buffer[..length.min(buffer.len())]
 }
 
 impl BjorkneveAnswer {
@@ -102,5 +145,41 @@ impl BjorknevePlace {
         let offset = usize::try_from(self.offset).ok()?;
         let length = usize::try_from(self.length).ok()?;
         Some(offset..offset.checked_add(length)?)
+    }
+}
+
+impl BjorkneveStatus {
+    /// What the load was refused by.
+    #[inline]
+    pub fn refusal(self) -> Option<Refusal> {
+        judged(self.number, self.detail).err()
+    }
+
+    /// As a result: the part of the lent buffer that is the panel's image. A
+    /// load under way has no answer yet, and is refused as no image is.
+    #[inline]
+    pub fn part(self, buffer: &[u8]) -> Result<&[u8], Refusal> {
+        judged(self.number, self.detail)?;
+        if !self.lamp {
+            return Err(Refusal {
+                number: refused::NOT_AN_IMAGE,
+                detail: 0,
+            });
+        }
+        Ok(start(self.length, buffer))
+    }
+}
+
+impl BjorkneveGauge {
+    /// As a result.
+    #[inline]
+    pub fn answer(self) -> Result<Gauge, Refusal> {
+        judged(self.number, self.detail)?;
+        Ok(Gauge {
+            serial: self.serial,
+            year: self.year,
+            month: self.month,
+            day: self.day,
+        })
     }
 }

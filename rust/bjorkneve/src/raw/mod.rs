@@ -5,6 +5,13 @@ mod answers;
 mod calls;
 mod declarations;
 
-pub use answers::{BjorkneveAnswer, BjorkneveFilled, BjorknevePlace, BjorkneveVerdict};
+pub use answers::{
+    BjorkneveAnswer, BjorkneveFilled, BjorkneveGauge, BjorknevePanel, BjorknevePlace,
+    BjorkneveStatus, BjorkneveVerdict,
+};
 pub use calls::{build, find, layout, load, read, reading, verdict, write};
+pub use calls::{
+    panel_begin, panel_end, panel_gauge, panel_line, panel_load, panel_power_on, panel_reading,
+    panel_status,
+};
 pub use declarations::*;
