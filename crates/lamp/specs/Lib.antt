@@ -4,6 +4,5 @@ pub mod Questions
 pub mod InNumbers
 pub mod ForC
 pub mod LoadsLaws
-pub mod ByLinesLaws
 pub mod QuestionsLaws
 pub mod ForCLaws

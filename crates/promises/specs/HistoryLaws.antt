@@ -20,7 +20,7 @@ use Rattle.panel.specs.Load.{judged, loadText}
 use Rattle.lamp.specs.Panel.{Standing, levelKept, isLit, imageHeld}
 use Rattle.lamp.specs.Panel.{ended as endedLoad}
 use Rattle.lamp.specs.Events.{poweredOn, textLoaded, textBegun, lineTaken, textEnded}
-use Rattle.lamp.specs.ByLinesLaws.{comesTo, standingOf, pieces-counted, begun-is, step, end-is, of-level, of-size, of-lamp}
+use Rattle.promises.specs.ByLinesLaws.{comesTo, standingOf, pieces-counted, begun-is, step, end-is, of-level, of-size, of-lamp}
 use Rattle.agreement.specs.VerdictAgrees.{verdict-accepted-exactly}
 use Rattle.promises.specs.History.{Event, loads, begins, takes, ends, isAsked, after, afterAll, Load, whole, byPieces, LastLoad, none, running, ended, next, lastAfter, TextSays, LoadSays}
 
@@ -44,7 +44,7 @@ module _ (level size : ℕ) (text image : List ℕ) where
 
 -- the outcome of a load that has ended; where none has begun, that of the kept image
 module _ (level size : ℕ) (kept : List ℕ) where
-  abbrev loadOutcome : Load → Outcome
+  abbrev pub loadOutcome : Load → Outcome
   loadOutcome (whole text) = loadText level size text
   loadOutcome (byPieces pieces) = judged level (atEnd (comesTo size pieces))
 
@@ -60,7 +60,7 @@ module _ (level size : ℕ) (kept : List ℕ) where
       by (result x) f g = pieces-are-lines size pieces x f
 
   -- a load that has ended says an image exactly where it comes to it
-  ended-says : (load : Load) (image : List ℕ) → (loadOutcome load ≡ result image) ↔ LoadSays level size kept (ended load) image
+  pub ended-says : (load : Load) (image : List ℕ) → (loadOutcome load ≡ result image) ↔ LoadSays level size kept (ended load) image
   ended-says (whole text) image = (loaded-says level size text image, says-loaded level size text image)
   ended-says (byPieces pieces) image = (
     λ e.

@@ -50,10 +50,10 @@ insideCounts = counted 40000 7003827 66600 7247344
 
 -- ---- bytes
 
-untrimmed-bytes : Bytes untrimmedImage
+pub untrimmed-bytes : Bytes untrimmedImage
 untrimmed-bytes = computed-bytes untrimmedImage refl
 
-worked-bytes : Bytes workedImage
+pub worked-bytes : Bytes workedImage
 worked-bytes = computed-bytes workedImage refl
 
 -- ---- there are calls: the writer is lent the worked image and a buffer

@@ -21,6 +21,8 @@ use Rattle.reading.specs.declared.Reading.{Reading}
 use Rattle.reading.specs.declared.Answer.{Answer}
 use Rattle.reading.specs.declared.Answer.the-variants.{Shown, Refused}
 use Rattle.panel.specs.declared.identities.Identified.{Identified}
+use Rattle.panel.specs.declared.identities.Identified.the-variants.{Refused as NotKnown}
+use Rattle.panel.specs.Verdict.{verdictOf}
 use Rattle.panel.specs.Identified.{identifiedBy}
 use Rattle.panel.specs.Levels.{isLevel}
 use Rattle.panel.specs.Reading.{readingOf}
@@ -31,9 +33,9 @@ use Rattle.lamp.specs.Panel.{ended as endedLoad}
 use Rattle.lamp.specs.Events.{poweredOn, textLoaded, linesTaken, textBegun, textEnded, lineTaken}
 use Rattle.lamp.specs.Questions.{loadState, readingShown, gaugeTold}
 use Rattle.lamp.specs.ForC.{statusForC}
-use Rattle.lamp.specs.ByLinesLaws.{by-lines-whole, comesTo, pieces-taken, of-first}
+use Rattle.promises.specs.ByLinesLaws.{by-lines-whole, comesTo, pieces-taken, of-first}
 use Rattle.promises.specs.AnswersLaws.{load-refuses}
-use Rattle.promises.specs.ZerosLaws.{first-taken, zeros-refused}
+use Rattle.promises.specs.ZerosLaws.{first-taken, layout-refused, zeros-refused}
 use Rattle.promises.specs.History.{Event, loads, begins, takes, ends, isAsked, after, afterAll, LastLoad, none, lastAfter, LoadSays}
 use Rattle.promises.specs.HistoryLaws.{lamp-by-last, image-by-last, level-by-last}
 
@@ -86,6 +88,11 @@ none-under-way pieces s level n counts =
 
 -- ---- all histories from power-on
 
+-- no image is of no gauge
+zeros-unknown : (level : ℕ) → identifiedBy level [] ≡ NotKnown (cond (isLevel level) (refusal 5 0) (refusal 20 0))
+unfolding identifiedBy verdictOf
+zeros-unknown level = decide (isLevel level) (λ f. rw (f, layout-refused [] (byte-at [] 0))) (λ f. rw f)
+
 module _ (level n : ℕ) (buffer : List ℕ) (events : List Event) where
   abbrev pub standsAfter : Standing
   standsAfter = afterAll events (poweredOn level n buffer)
@@ -109,6 +116,9 @@ module _ (level n : ℕ) (buffer : List ℕ) (events : List Event) where
   pub no-reading-unlit : isLit (standsAfter .panel) ≡ false → (counts : Counts)
       → readingShown standsAfter counts ≡ Refused (cond (isLevel (levelKept level)) (refusal 5 0) (refusal 20 0))
   no-reading-unlit e counts = rw (e, level-by-last level n buffer events) (zeros-refused [] (byte-at [] 0) (levelKept level) counts)
+
+  pub no-gauge-unlit : isLit (standsAfter .panel) ≡ false → gaugeTold standsAfter ≡ NotKnown (cond (isLevel (levelKept level)) (refusal 5 0) (refusal 20 0))
+  no-gauge-unlit e = rw (e, level-by-last level n buffer events) (zeros-unknown (levelKept level))
 
   -- A reading is shown only while the lamp is green.
   pub shown-only-lit : (counts : Counts) (r : Reading) → readingShown standsAfter counts ≡ Shown r → isLit (standsAfter .panel) ≡ true

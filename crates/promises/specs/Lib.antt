@@ -6,12 +6,15 @@ pub mod Demand1
 pub mod Demand2
 pub mod Demand3
 pub mod Lamp
+pub mod PanelCalls
 pub mod EndToEnd
 pub mod Starred
 pub mod WorkedReadings
 pub mod AnswersLaws
 pub mod ZerosLaws
 pub mod AnewLaws
+pub mod ByLinesLaws
 pub mod HistoryLaws
 pub mod AnewBuilt
 pub mod Instances
+pub mod LampInstances

@@ -40,7 +40,7 @@ part-starts size start n =
     byte-at (take n (drop start zeros)) 0 ∙ first-taken n (drop start zeros) (getD-drop start zeros 0 0 ∙ zeros-at size (start + 0))
 
 module _ (image : List ℕ) (e : numberAt 1 image 0 ≡ 0) where
-  layout-refused : layoutVerdict image ≡ NotAccepted (refusal 5 0)
+  pub layout-refused : layoutVerdict image ≡ NotAccepted (refusal 5 0)
   unfolding layoutVerdict contentsVerdict startVerdict
   layout-refused =
       let sized = leb 2 (length image) && leb (length image) 4096 in
