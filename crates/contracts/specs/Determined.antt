@@ -9,6 +9,7 @@ use Rattle.numbers.proofs.slices as slices
 use Rattle.refusals.proofs as refusals
 use Rattle.hexline.proofs as hexline
 use Rattle.hexread.proofs as hexread
+use Rattle.hexlines.proofs as hexlines
 use Rattle.hexwrite.proofs as hexwrite
 use Rattle.contents.proofs as contents
 use Rattle.layout.proofs as layout
@@ -113,6 +114,12 @@ judge-line-determined _ _ _ _ _ _ = answers
 pub judge-header-determined : Determines hexline.judge_header.ended hexline.judge_header.Reads.Learnt
 judge-header-determined _ _ _ _ _ _ = answers
 
+pub judge-in-place-determined : Determines hexline.judge_in_place.ended hexline.judge_in_place.Reads.Learnt
+judge-in-place-determined _ _ _ _ _ _ = answers
+
+pub room-in-determined : Determines hexline.room_in.ended hexline.room_in.Reads.Learnt
+room-in-determined _ _ _ _ _ _ = answers
+
 pub data-byte-determined : Determines hexline.data_byte.ended hexline.data_byte.Reads.Learnt
 data-byte-determined _ _ _ _ _ _ = answers
 
@@ -128,6 +135,10 @@ next-line-determined _ _ _ _ _ _ = answers
 -- hexread
 pub read-determined : Determines hexread.read.ended hexread.read.Reads.Learnt
 read-determined _ _ _ _ _ _ p q = next (first (fills p q))
+
+-- hexlines
+pub take-line-determined : Determines hexlines.take_line.ended hexlines.take_line.Reads.Learnt
+take-line-determined _ _ _ _ _ _ p q = next (next (first (determined (p .answers) (q .answers), determined (p .holds) (q .holds))))
 
 -- hexwrite
 pub write-determined : Determines hexwrite.write.ended hexwrite.write.Reads.Learnt

@@ -8,6 +8,7 @@ use Rattle.numbers.proofs.slices as slices
 use Rattle.refusals.proofs as refusals
 use Rattle.hexline.proofs as hexline
 use Rattle.hexread.proofs as hexread
+use Rattle.hexlines.proofs as hexlines
 use Rattle.hexwrite.proofs as hexwrite
 use Rattle.contents.proofs as contents
 use Rattle.layout.proofs as layout
@@ -111,6 +112,12 @@ judge-line-free _ _ _ = refl
 pub judge-header-free : AsksNothing hexline.judge_header.ended hexline.judge_header.Reads.requires
 judge-header-free _ _ _ = refl
 
+pub judge-in-place-free : AsksNothing hexline.judge_in_place.ended hexline.judge_in_place.Reads.requires
+judge-in-place-free _ _ _ = refl
+
+pub room-in-free : AsksNothing hexline.room_in.ended hexline.room_in.Reads.requires
+room-in-free _ _ _ = refl
+
 pub data-byte-free : AsksNothing hexline.data_byte.ended hexline.data_byte.Reads.requires
 data-byte-free _ _ _ = refl
 
@@ -126,6 +133,10 @@ next-line-free _ _ _ = refl
 -- hexread
 pub read-free : AsksNothing hexread.read.ended hexread.read.Reads.requires
 read-free _ _ _ = refl
+
+-- hexlines
+pub take-line-free : AsksNothing hexlines.take_line.ended hexlines.take_line.Reads.requires
+take-line-free _ _ _ = refl
 
 -- hexwrite
 pub write-free : AsksNothing hexwrite.write.ended hexwrite.write.Reads.requires
