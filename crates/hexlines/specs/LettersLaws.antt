@@ -29,15 +29,16 @@ when-yes false w t = never (sym t)
 
 -- ---- the character of a digit
 
-module _ (d : ℕ) where
-  pub decimal-spells : d < 10 → digit (d + 48) ≡ d
-  decimal-spells h = omega (arith, digit-decimal (d + 48) (omega arith) (omega arith))
+module _ (d : ℕ) (h : d < 16) where
+  pub lower-case-spells : digit (d + 48 + d / 10 * 39) ≡ d
+  lower-case-spells =
+      split 10 d (λ k. omega (arith, digit-lower-case (d + 48 + d / 10 * 39) (omega arith) (omega arith)))
+      (λ k. omega (arith, digit-decimal (d + 48 + d / 10 * 39) (omega arith) (omega arith)))
 
-  pub lower-case-spells : 10 ≤ d → d < 16 → digit (d + 87) ≡ d
-  lower-case-spells h k = omega (arith, digit-lower-case (d + 87) (omega arith) (omega arith))
-
-  pub upper-case-spells : 10 ≤ d → d < 16 → digit (d + 55) ≡ d
-  upper-case-spells h k = omega (arith, digit-upper-case (d + 55) (omega arith) (omega arith))
+  pub upper-case-spells : digit (d + 48 + d / 10 * 7) ≡ d
+  upper-case-spells =
+      split 10 d (λ k. omega (arith, digit-upper-case (d + 48 + d / 10 * 7) (omega arith) (omega arith)))
+      (λ k. omega (arith, digit-decimal (d + 48 + d / 10 * 7) (omega arith) (omega arith)))
 
 character-small : (c : ℕ) → digit c < 16 → c < 256
 character-small c h = split c 102 (λ k. omega arith) (λ k. omega (arith, digit-high c k))

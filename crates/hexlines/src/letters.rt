@@ -7,19 +7,17 @@ ghost use Rattle.hexline.specs.DigitsLaws.{SpellsByte};
 ghost use Rattle.hexlines.specs.LettersLaws.{When, HeadIn, HeadNumber, TwoCharacters, ByteNumber, HeadSpelled};
 use numbers::fields::number_of_8;
 
-// The character of a digit.
+// The character of a digit. No branch goes by the digit: a checksum's digits can't be predicted.
 fn character(digit: usize, lower: bool) -> u8
     requires { ⌜ digit < 16 ⌝ }
     ensures { λ r. ⌜ digitOf r ≡ digit ⌝ }
 {
     let value = digit as u8;
-    if value < 10 {
-        return value + 48;
-    }
+    let letter = value / 10;
     if lower {
-        return value + 87;
+        return value + 48 + letter * 39;
     }
-    value + 55
+    value + 48 + letter * 7
 }
 
 // The eight characters after a line's colon.
