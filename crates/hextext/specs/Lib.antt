@@ -5,5 +5,4 @@ pub mod Written
 pub mod RecordLaws
 pub mod WithoutLaws
 pub mod TextLaws
-pub mod LinesLaws
 pub mod WrittenLaws

@@ -17,7 +17,7 @@ use Rattle.refusals.specs.Refusals.{Outcome, result, refused, refusal, checked}
 use Rattle.hextext.specs.declared.Record.{Record}
 use Rattle.hextext.specs.declared.Record.the-variants.{Data, End, Fault}
 use Rattle.hextext.specs.Lines.{linesOf, lineRecord, lineData, Progress, underWay, whole, stopped, afterRecord, afterLine, afterLines, atEnd}
-use Rattle.hextext.specs.LinesLaws.{lines-read}
+use Rattle.promises.specs.LinesLaws.{lines-read}
 use Rattle.panel.specs.Verdict.{verdictOf}
 use Rattle.panel.specs.Load.{judged, loadText}
 use Rattle.lamp.specs.Panel.{textWhole, afterLoad, isLit, Standing, standing, ended}

@@ -12,7 +12,7 @@ use Rattle.laws.specs.Cases.{never}
 use Rattle.refusals.specs.Refusals.{Outcome, result, refused, checked, heldAfter}
 use Rattle.refusals.specs.VerdictLaws.{checked-result}
 use Rattle.hextext.specs.Lines.{linesOf, joined, underWay, Progress, afterLine, afterLines, atEnd}
-use Rattle.hextext.specs.LinesLaws.{lines-read, pieces-are-lines}
+use Rattle.promises.specs.LinesLaws.{lines-read, pieces-are-lines}
 use Rattle.hextext.specs.Text.{readText}
 use Rattle.hexformat.specs.Agrees.{read-exactly}
 use Rattle.panel.specs.Verdict.{verdictOf}

@@ -13,6 +13,7 @@ pub mod WorkedReadings
 pub mod AnswersLaws
 pub mod ZerosLaws
 pub mod AnewLaws
+pub mod LinesLaws
 pub mod ByLinesLaws
 pub mod HistoryLaws
 pub mod AnewBuilt
