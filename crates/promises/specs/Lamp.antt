@@ -6,7 +6,9 @@ use mathlib.Core.Path.{_≡_, refl, sym, ap, _∙_}
 use Prim.Native.Nat.{ℕ, zero, suc, _+_, _*_, _-_, _≤_, _<_, min}
 use native.Mathlib.Omega.{arith}
 use borrow.Author.Tests.{ne-eqb}
-use lib.ListN.{length, take, getD}
+use lib.Dec.{eqb}
+use lib.ListN.{length, take, drop, getD, length-drop}
+use lib.Seq.{length-take-le, getD-drop}
 use denote.Ref.{now}
 use Rattle.laws.specs.Cases.{split, decide, never}
 use Rattle.paper.specs.Words.{Not}
@@ -15,7 +17,11 @@ use Rattle.numbers.specs.FieldsLaws.{byte-at}
 use Rattle.refusals.specs.declared.Filled.{Filled}
 use Rattle.refusals.specs.InNumbers.{filledNumber, filledDetail, filledLength}
 use Rattle.refusals.specs.Refusals.{Outcome, result, refused, refusal, answerTo, heldAfter}
-use Rattle.hextext.specs.Lines.{linesOf}
+use Rattle.hextext.specs.declared.Record.the-variants.{Fault}
+use Rattle.hextext.specs.Record.{recordBytes, countOf, formed}
+use Rattle.hextext.specs.RecordLaws.{byteAt, allDigits-at, formed-digits, formed-length, recordBytes-head, judge-unformed}
+use Rattle.hextext.specs.Text.{bare}
+use Rattle.hextext.specs.Lines.{linesOf, lineInside, lineRecord}
 use Rattle.reading.specs.declared.Counts.{Counts}
 use Rattle.reading.specs.declared.Reading.{Reading}
 use Rattle.reading.specs.declared.Answer.{Answer}
@@ -40,6 +46,26 @@ use Rattle.promises.specs.History.{Event, loads, begins, takes, ends, is
 use Rattle.promises.specs.HistoryLaws.{lamp-by-last, image-by-last, level-by-last}
 
 -- ---- a load by lines
+
+bare-long : (l : List ℕ) → length l ≤ length (bare l) + 1
+unfolding bare
+bare-long l =
+    decide (eqb (getD l (length l - 1) 0) 13)
+    (λ (q : eqb (getD l (length l - 1) 0) 13 ≡ true). rw q (omega (arith, length-take-le (length l - 1) l (omega arith))))
+    (λ (q : eqb (getD l (length l - 1) 0) 13 ≡ false). rw q (omega arith))
+
+-- a record counts 255 data bytes at most
+too-long : (l : List ℕ) → 521 < length l → formed l ≡ false
+unfolding byteAt
+too-long l h = decide (formed l) (λ (f : formed l ≡ true). absurd (omega (arith, formed-length l f, counted f))) (λ (f : formed l ≡ false). f)
+  where
+    counted : formed l ≡ true → countOf (recordBytes l) < 256
+    counted f =
+        let digits = formed-digits l f in
+        let size = length-drop 1 l in
+        let high = allDigits-at (drop 1 l) 0 digits (omega arith) in
+        let low = allDigits-at (drop 1 l) 1 digits (omega arith) in
+        rw (recordBytes-head l (omega arith)) (omega (arith, rw (getD-drop 1 l 0 0) at high, rw (getD-drop 1 l 1 0) at low))
 
 -- the events of a load by pieces
 abbrev pub piecesTaken : List (List ℕ) → List Event
@@ -77,6 +103,17 @@ module _ (text : List ℕ) (s : Standing) where
           let numbered = load-refuses (s .panel .level) text (s .buffer) r e .0 in
           let not-zero = ne-eqb (r .number) 0 (λ z. omega arith) in
           rw (e, not-zero) (refl, refl, refl, refl)
+
+-- A line that can be good has 523 characters at most, with its line end: a longer one is a fault of form.
+pub longer-line-refused : (room at : ℕ) (line : List ℕ) → 523 < length line → lineRecord room at line ≡ Fault 1
+unfolding lineRecord lineInside
+longer-line-refused room at line h =
+    decide (eqb (getD line (length line - 1) 0) 10)
+    (λ (q : eqb (getD line (length line - 1) 0) 10 ≡ true).
+    let front : List ℕ = take (length line - 1) line in
+    let size : length front ≡ length line - 1 = length-take-le (length line - 1) line (omega arith) in
+    rw (q, judge-unformed room at (bare front) (too-long (bare front) (omega (arith, bare-long front)))))
+    (λ (q : eqb (getD line (length line - 1) 0) 10 ≡ false). rw q)
 
 -- While a text is under way no panel of any level gives a reading by any part of the buffer from its start, for any counts.
 pub none-under-way : (pieces : List (List ℕ)) (s : Standing) (level n : ℕ) (counts : Counts)
