@@ -234,6 +234,7 @@ tables! {
 named! {
     LARGEST_IMAGE: usize = 4_096, "bytes of the largest image";
     LONGEST_WRITTEN_TEXT: usize = 11_276, "bytes of the longest text that is written of an image";
+    LONGEST_LINE: usize = 523, "bytes of the longest line of a text that can be good, with CR and LF";
     LONGEST_SHOWN_TEXT: usize = 65_536, "bytes of the longest text that the show program takes";
     LEVEL_1: u32 = 1, "a panel that knows identity, pressure set and temperature set";
     LEVEL_2: u32 = 2, "a panel that also knows trim and note";
