@@ -5,11 +5,18 @@
  * Every call answers, whatever the bytes and numbers are. An answer's number is 0 on success. Any other is a refusal, which
  * docs/NUMBERS.md explains with its detail: the answer's other values are then 0, and the buffer lent for the result holds nothing
  * but zeros. On success such a buffer holds the result, as many bytes as the answer's length says, and zeros after it. That length
- * goes with the image into later calls, and not the size of its buffer. Only the answer of bjorkneve_find has no number.
+ * goes with the image into later calls, and not the size of its buffer. The answer of bjorkneve_find has no number, nor has a panel:
+ * bjorkneve_panel_status tells what the panel's load has come to.
  *
- * The caller owns and lends all memory. Nothing is allocated, and nothing is kept after a call. There is no state, so that calls may
- * run at the same time, each with a buffer of its own for the result. In one call the buffer for the result must not overlap
- * another.
+ * The caller owns and lends all memory. Nothing is allocated, and the library keeps nothing after a call, so that calls may run at the
+ * same time, each with a buffer of its own for the result. In one call the buffer for the result must not overlap another.
+ *
+ * What there is to know of a panel is a struct that the caller keeps: each call takes it and gives back the next one, which takes its
+ * place. With it goes a buffer for the image, the same one in each call and the whole of it, which nothing else writes: the panel
+ * knows the image's length. The fields are the library's own. Any bytes are a panel, and get an answer. One of zeros has no image,
+ * and says so by 5; its level is 0, which is none, so that a reading, the gauge and the load of a good text are refused 20. The lamp
+ * of a made-up panel may be green, and its number any; but a reading and the gauge are taken from the image that is lent, judged anew
+ * at each call, and never from one that the panel's level refuses.
  *
  * A length counts the elements of its array, and has 64 bits on every machine. A null pointer with length 0 is an empty array; a null
  * pointer with any other length is not allowed. The length of a result is never above that of the buffer lent for it, so that it fits
@@ -48,6 +55,7 @@ extern "C" {
 enum {
     BJORKNEVE_LARGEST_IMAGE = 4096, /* bytes of the largest image */
     BJORKNEVE_LONGEST_WRITTEN_TEXT = 11276, /* bytes of the longest text that is written of an image */
+    BJORKNEVE_LONGEST_LINE = 523, /* bytes of the longest line of a text that can be good, with CR and LF */
     BJORKNEVE_LONGEST_SHOWN_TEXT = 65536, /* bytes of the longest text that the show program takes */
     BJORKNEVE_LEVEL_1 = 1, /* a panel that knows identity, pressure set and temperature set */
     BJORKNEVE_LEVEL_2 = 2, /* a panel that also knows trim and note */
@@ -141,6 +149,38 @@ typedef struct {
     uint8_t mark;
 } BjorkneveAnswer;
 
+/* The panel itself. Its caller keeps it, and hands it to the next call; any bytes are a panel. The lamp is green at stage AT_IMAGE alone. */
+typedef struct {
+    /* while a text is under way, how many of its lines were good; without an image, the detail of the refusal */
+    uint64_t lines_or_detail;
+    /* bytes of the image; without one, the number of the refusal */
+    uint32_t size_or_number;
+    uint8_t level;
+    uint8_t stage;
+    /* the image's first byte, while a text is under way */
+    uint8_t first;
+} BjorknevePanel;
+
+/* How a panel's last load stands. The lamp is green, number and detail are 0 and length has the bytes of the image; or the refusal's number
+ * and detail; or all three are 0 while a text is under way. The level is 0 in a panel of a level that there is not. */
+typedef struct {
+    uint32_t number;
+    uint64_t detail;
+    uint64_t length;
+    bool lamp;
+    uint8_t level;
+} BjorkneveStatus;
+
+/* Number 0, and the serial number of the gauge and the date of its calibration; else the refusal's number and detail, and 0 for each value. */
+typedef struct {
+    uint32_t number;
+    uint64_t detail;
+    uint32_t serial;
+    uint16_t year;
+    uint8_t month;
+    uint8_t day;
+} BjorkneveGauge;
+
 /* Reads a HEX text into the image. Refused 1 to 4, with the line in the text as the detail. */
 BJORKNEVE_MUST_USE BjorkneveFilled bjorkneve_read(
     const uint8_t *text, uint64_t text_length,
@@ -183,6 +223,42 @@ BJORKNEVE_MUST_USE BjorkneveAnswer bjorkneve_reading(
     uint32_t level,
     BjorkneveCounts counts);
 
+/* A panel of this level at power-on. Of the bytes in the image the first size are what was kept of an accepted image, and they are judged
+ * as a loaded image is; size is 0 where nothing was kept. Where they are refused, the image is all zeros and the panel has none. */
+BJORKNEVE_MUST_USE BjorknevePanel bjorkneve_panel_power_on(uint32_t level, uint8_t *image, uint64_t image_length, uint64_t size);
+
+/* Loads a whole text, as bjorkneve_load does. */
+BJORKNEVE_MUST_USE BjorknevePanel bjorkneve_panel_load(
+    BjorknevePanel panel,
+    const uint8_t *text, uint64_t text_length,
+    uint8_t *image, uint64_t image_length);
+
+/* Begins a load by lines: the image is all zeros from here on, and the lamp is not green before bjorkneve_panel_end accepts. Until then the
+ * image's first byte is kept in the panel, so that no call takes what stands in the image for an image. */
+BJORKNEVE_MUST_USE BjorknevePanel bjorkneve_panel_begin(BjorknevePanel panel, uint8_t *image, uint64_t image_length);
+
+/* Takes one line of the text with its line end, LF or CR LF; the last line may lack it, and is then refused. After a fault the image is all
+ * zeros, and further lines change nothing. A line that can be good has at most BJORKNEVE_LONGEST_LINE bytes. */
+BJORKNEVE_MUST_USE BjorknevePanel bjorkneve_panel_line(
+    BjorknevePanel panel,
+    const uint8_t *line, uint64_t line_length,
+    uint8_t *image, uint64_t image_length);
+
+/* Ends a load by lines: the image is judged, and the panel answers what bjorkneve_load answers of the whole text. */
+BJORKNEVE_MUST_USE BjorknevePanel bjorkneve_panel_end(BjorknevePanel panel, uint8_t *image, uint64_t image_length);
+
+/* How the panel's last load stands: the lamp, and what the load answered. */
+BJORKNEVE_MUST_USE BjorkneveStatus bjorkneve_panel_status(BjorknevePanel panel);
+
+/* Takes a reading by the panel's image, which is judged anew at each call. Refused as by bjorkneve_reading; 5 where the lamp is not green. */
+BJORKNEVE_MUST_USE BjorkneveAnswer bjorkneve_panel_reading(
+    BjorknevePanel panel,
+    const uint8_t *image, uint64_t image_length,
+    BjorkneveCounts counts);
+
+/* The gauge of the panel's image, which is judged anew. Refused as by bjorkneve_verdict; 5 where the lamp is not green. */
+BJORKNEVE_MUST_USE BjorkneveGauge bjorkneve_panel_gauge(BjorknevePanel panel, const uint8_t *image, uint64_t image_length);
+
 /* The library has the same layout on every machine. Where a compiler has another one, this is refused. */
 BJORKNEVE_ASSERT(sizeof(BjorkneveVerdict) == 16U);
 BJORKNEVE_ASSERT(offsetof(BjorkneveVerdict, number) == 0U);
@@ -212,6 +288,25 @@ BJORKNEVE_ASSERT(offsetof(BjorkneveAnswer, pressure) == 16U);
 BJORKNEVE_ASSERT(offsetof(BjorkneveAnswer, temperature) == 24U);
 BJORKNEVE_ASSERT(offsetof(BjorkneveAnswer, unit) == 32U);
 BJORKNEVE_ASSERT(offsetof(BjorkneveAnswer, mark) == 33U);
+BJORKNEVE_ASSERT(sizeof(BjorknevePanel) == 16U);
+BJORKNEVE_ASSERT(offsetof(BjorknevePanel, lines_or_detail) == 0U);
+BJORKNEVE_ASSERT(offsetof(BjorknevePanel, size_or_number) == 8U);
+BJORKNEVE_ASSERT(offsetof(BjorknevePanel, level) == 12U);
+BJORKNEVE_ASSERT(offsetof(BjorknevePanel, stage) == 13U);
+BJORKNEVE_ASSERT(offsetof(BjorknevePanel, first) == 14U);
+BJORKNEVE_ASSERT(sizeof(BjorkneveStatus) == 32U);
+BJORKNEVE_ASSERT(offsetof(BjorkneveStatus, number) == 0U);
+BJORKNEVE_ASSERT(offsetof(BjorkneveStatus, detail) == 8U);
+BJORKNEVE_ASSERT(offsetof(BjorkneveStatus, length) == 16U);
+BJORKNEVE_ASSERT(offsetof(BjorkneveStatus, lamp) == 24U);
+BJORKNEVE_ASSERT(offsetof(BjorkneveStatus, level) == 25U);
+BJORKNEVE_ASSERT(sizeof(BjorkneveGauge) == 24U);
+BJORKNEVE_ASSERT(offsetof(BjorkneveGauge, number) == 0U);
+BJORKNEVE_ASSERT(offsetof(BjorkneveGauge, detail) == 8U);
+BJORKNEVE_ASSERT(offsetof(BjorkneveGauge, serial) == 16U);
+BJORKNEVE_ASSERT(offsetof(BjorkneveGauge, year) == 20U);
+BJORKNEVE_ASSERT(offsetof(BjorkneveGauge, month) == 22U);
+BJORKNEVE_ASSERT(offsetof(BjorkneveGauge, day) == 23U);
 
 /* bjorkneve_build for lengths that are kept as size_t, which has 32 bits on many a machine: section i, of count sections, has the kind
  * kinds[i] and a body of sizes[i] bytes. With more than 16 sections the first 17 are looked at, and the answer is 18 as it is for

@@ -28,6 +28,7 @@ BjorkneveAnswer used(const uint8_t *image, uint64_t length, BjorkneveSensorCycle
 
 #if defined DROPPED
 void dropped(uint8_t *bytes, size_t size, const uint32_t *kinds, const uint64_t *lengths, const size_t *sizes, BjorkneveCounts counts);
+void dropped_of_panel(BjorknevePanel panel, uint8_t *bytes, size_t size, BjorkneveCounts counts);
 
 void dropped(uint8_t *bytes, size_t size, const uint32_t *kinds, const uint64_t *lengths, const size_t *sizes, BjorkneveCounts counts) {
     bjorkneve_read(NULL, 0, bytes, size);
@@ -39,5 +40,16 @@ void dropped(uint8_t *bytes, size_t size, const uint32_t *kinds, const uint64_t 
     bjorkneve_build(kinds, 1, lengths, 1, NULL, 0, bytes, size);
     bjorkneve_build_of_sizes(kinds, sizes, 1, NULL, 0, bytes, size);
     bjorkneve_reading(bytes, size, BJORKNEVE_LEVEL_2, counts);
+}
+
+void dropped_of_panel(BjorknevePanel panel, uint8_t *bytes, size_t size, BjorkneveCounts counts) {
+    bjorkneve_panel_power_on(BJORKNEVE_LEVEL_2, bytes, size, 0);
+    bjorkneve_panel_load(panel, NULL, 0, bytes, size);
+    bjorkneve_panel_begin(panel, bytes, size);
+    bjorkneve_panel_line(panel, NULL, 0, bytes, size);
+    bjorkneve_panel_end(panel, bytes, size);
+    bjorkneve_panel_status(panel);
+    bjorkneve_panel_reading(panel, bytes, size, counts);
+    bjorkneve_panel_gauge(panel, bytes, size);
 }
 #endif

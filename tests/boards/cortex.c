@@ -12,8 +12,13 @@ void semihosting(uint32_t number, const void *argument) {
 }
 
 #define SYSTICK ((volatile uint32_t *)0xe000e010)
+#define COPROCESSORS ((volatile uint32_t *)0xe000ed88)
 
 static void reset(void) {
+#if defined(__ARM_FP)
+    /* floating point on: the compiler moves numbers of 64 bits by its registers */
+    COPROCESSORS[0] |= 0xf << 20;
+#endif
     for (uint32_t *to = data_start, *from = data_loaded; to != data_end;) *to++ = *from++;
     for (uint32_t *to = bss_start; to != bss_end;) *to++ = 0;
     end(main());

@@ -69,10 +69,20 @@ static uint32_t take_out(uint8_t *text, uint32_t length) {
     return length - 1;
 }
 
+/* The record that starts at a place where a full one may, with its line end. */
+static uint32_t lose_line(uint8_t *text, uint32_t length) {
+    const uint32_t start = RECORD_LENGTH * random_below(length / RECORD_LENGTH + 1);
+    uint32_t next = start;
+    while (next < length && text[next] != '\n') next++;
+    if (next == length) return length;
+    for (uint32_t i = next + 1; i < length; i++) text[start + i - next - 1] = text[i];
+    return length - (next + 1 - start);
+}
+
 uint32_t damage_text(uint8_t *text, uint32_t length, uint32_t room) {
     static const uint8_t characters[] = ":0123456789ABCDEFabcdef\r\n G/@`g";
     const uint8_t character = characters[random_below(sizeof characters - 1)];
-    switch (random_below(8)) {
+    switch (random_below(9)) {
     case 0: return random_below(length + 1);
     case 1: return take_out(text, length);
     case 2: return insert(text, length, room, character);
@@ -82,6 +92,7 @@ uint32_t damage_text(uint8_t *text, uint32_t length, uint32_t room) {
             if ('A' <= text[i] && text[i] <= 'F') text[i] += 'a' - 'A';
         return length;
     case 5: if (length > 0) text[random_below(length)] = character; return length;
+    case 6: return lose_line(text, length);
     default: change_record(text, length); return length;
     }
 }

@@ -4,7 +4,11 @@
 
 #include <stdint.h>
 
-enum call { READ, WRITE, LOAD, LAYOUT, VERDICT, FIND, BUILD, READING, CALLS };
+enum call {
+    READ, WRITE, LOAD, LAYOUT, VERDICT, FIND, BUILD, READING,
+    PANEL_POWER_ON, PANEL_LOAD, PANEL_BEGIN, PANEL_LINE, PANEL_END, PANEL_STATUS, PANEL_READING, PANEL_GAUGE,
+    CALLS
+};
 
 /* Whether the next calls are looked at. */
 void look_at_stack(int looks);
