@@ -52,7 +52,8 @@ firstWithheld at buffer = cond (eqb at 0) (set buffer 0 0) buffer
 abbrev pub recordTaken : Record → (bytes : List ℕ) → Standing → Standing
 recordTaken (Data n) bytes s =
     let at = sizeOf (s .panel) in
-    standing (underWay (s .panel .level) (nextLine (s .panel)) (at + n) (firstKept at bytes (s .panel .first))) (firstWithheld at (paste (s .buffer) at bytes n))
+    standing (underWay (s .panel .level) (nextLine (s .panel)) (at + n) (firstKept at bytes (s .panel .first)))
+    (firstWithheld at (paste (s .buffer) at bytes n))
 recordTaken End bytes s =
     standing (textWhole (s .panel .level) (nextLine (s .panel)) (sizeOf (s .panel)) (s .panel .first)) (s .buffer)
 recordTaken (Fault number) bytes s = stoppedBy number s

@@ -18,7 +18,8 @@ module _ (panel : Panel) (lit : Bool) (l : lit ≡ isLit panel) (state : LoadSta
   pub status-under-way : state ≡ UnderWay → record { number = 0; detail = 0; length = 0; lamp = lit; level = panel .level } ≡ statusForC panel
   status-under-way e = rw (l, ← s, e)
 
-  pub status-accepted : (size : ℕ) → state ≡ Accepted size → record { number = 0; detail = 0; length = size; lamp = lit; level = panel .level } ≡ statusForC panel
+  pub status-accepted : (size : ℕ) → state ≡ Accepted size
+      → record { number = 0; detail = 0; length = size; lamp = lit; level = panel .level } ≡ statusForC panel
   status-accepted size e = rw (l, ← s, e)
 
   pub status-refused : (r : Refusal) → state ≡ Refused r

@@ -131,7 +131,8 @@ module _ (level size : ℕ) where
                   f .all,
                 );
             counts =
-                rw e (counted-under-way {lines = lines + 1} {image = image ++ lineData line} (omega (arith, more, f .all, f .some)) (omega (arith, more, f .all, f .fits)));
+                rw e (counted-under-way {lines = lines + 1} {image = image ++ lineData line} (omega (arith, more, f .all, f .some))
+                (omega (arith, more, f .all, f .fits)));
           }
       by End e = record { same = rw (long, e, next); counts = rw e (counted-whole {lines = lines + 1} {image = image} (omega arith) k) }
       by (Fault number) e = record { same = rw (long, e, next, long); counts = rw e counted-stopped }
@@ -144,7 +145,8 @@ module _ (level size : ℕ) where
   step line (stopped r) c = record { same = refl; counts = counted-stopped }
 
   pub steps : (lines : List (List ℕ)) (progress : Progress) → Counted size progress
-      → (linesTaken lines (standingOf level size progress) ≡ standingOf level size (afterLines room lines progress)) × Counted size (afterLines room lines progress)
+      → (linesTaken lines (standingOf level size progress) ≡ standingOf level size (afterLines room lines progress))
+      × Counted size (afterLines room lines progress)
   unfolding linesTaken afterLines
   steps [] progress c = (refl, c)
   steps (line ∷ lines) progress c =

@@ -90,6 +90,10 @@ ended-holds level size image = take-append-seam image (replicate (size - length 
 
 -- ---- a panel after any events
 
+-- neither a piece nor an end changes it
+abbrev Unmoved : (piece : List ℕ) → Standing → Type 0
+Unmoved piece s = (lineTaken piece s ≡ s) × (textEnded s ≡ s)
+
 module _ (level n : ℕ) (buffer : List ℕ) where
   abbrev pub startOf : Standing
   startOf = poweredOn level n buffer
@@ -122,11 +126,11 @@ module _ (level n : ℕ) (buffer : List ℕ) where
         by (result x) = refl
         by (refused r) = refl
 
-    ended-unmoved : (piece : List ℕ) → (lineTaken piece (endedLoad levelOf sizeOf o) ≡ endedLoad levelOf sizeOf o) × (textEnded (endedLoad levelOf sizeOf o) ≡ endedLoad levelOf sizeOf o)
+    ended-unmoved : (piece : List ℕ) → Unmoved piece (endedLoad levelOf sizeOf o)
     unfolding lineTaken textEnded
     ended-unmoved piece = by o
       where
-        by : (p : Outcome) → (lineTaken piece (endedLoad levelOf sizeOf p) ≡ endedLoad levelOf sizeOf p) × (textEnded (endedLoad levelOf sizeOf p) ≡ endedLoad levelOf sizeOf p)
+        by : (p : Outcome) → Unmoved piece (endedLoad levelOf sizeOf p)
         by (result x) = (refl, refl)
         by (refused r) = (refl, refl)
 
@@ -162,7 +166,8 @@ module _ (level n : ℕ) (buffer : List ℕ) where
 
   -- one more piece
   one-more : (pieces : List (List ℕ)) (piece : List ℕ) (progress : Progress)
-      → afterLines (min largestImage sizeOf) (pieces ++ piece ∷ []) progress ≡ afterLine (min largestImage sizeOf) piece (afterLines (min largestImage sizeOf) pieces progress)
+      → afterLines (min largestImage sizeOf) (pieces ++ piece ∷ []) progress
+      ≡ afterLine (min largestImage sizeOf) piece (afterLines (min largestImage sizeOf) pieces progress)
   unfolding afterLines
   one-more [] piece progress = refl
   one-more (line ∷ pieces) piece progress = one-more pieces piece (afterLine (min largestImage sizeOf) line progress)
@@ -206,10 +211,13 @@ module _ (level n : ℕ) (buffer : List ℕ) where
         λ s. lit .1 (s .0, ended-says levelOf sizeOf keptImage load (s .0) .1 (s .1)),
       )
 
+  holds-result : (o : Outcome) (image : List ℕ) → o ≡ result image → imageHeld (endedLoad levelOf sizeOf o) ≡ image
+  holds-result o image e = ap (λ (p : Outcome). imageHeld (endedLoad levelOf sizeOf p)) e ∙ ended-holds levelOf sizeOf image
+
   by-image : (last : LastLoad) (image : List ℕ) → LoadSays levelOf sizeOf keptImage last image → imageHeld (standingBy last) ≡ image
-  by-image none image s = ap (λ (o : Outcome). imageHeld (endedLoad levelOf sizeOf o)) (none-says levelOf sizeOf keptImage image .1 s) ∙ ended-holds levelOf sizeOf image
+  by-image none image s = holds-result (judged levelOf (result keptImage)) image (none-says levelOf sizeOf keptImage image .1 s)
   by-image (running pieces) image s = absurd s
-  by-image (ended load) image s = ap (λ (o : Outcome). imageHeld (endedLoad levelOf sizeOf o)) (ended-says levelOf sizeOf keptImage load image .1 s) ∙ ended-holds levelOf sizeOf image
+  by-image (ended load) image s = holds-result (loadOutcome levelOf sizeOf keptImage load) image (ended-says levelOf sizeOf keptImage load image .1 s)
 
   module _ (events : List Event) where
     pub lamp-by-last : (isLit (afterAll events startOf .panel) ≡ true) ↔ ((image : List ℕ) × LoadSays levelOf sizeOf keptImage (lastAfter events none) image)
