@@ -1,35 +1,29 @@
 -- Any line, with its line end and without: a law for each way out.
 use mathlib.Core.Path.{_≡_, refl, sym, _∙_}
 use mathlib.Core.Bool.{true, false, cond}
-use mathlib.Core.List.{List, [], _∷_}
-use Prim.Native.Nat.{ℕ, zero, suc, _+_, _-_, _*_, _≤_, _<_, min}
+use mathlib.Core.List.{List, []}
+use Prim.Native.Nat.{ℕ, suc, _+_, _-_, _*_, _%_, _≤_, _<_, min}
 use native.Mathlib.Nat.{sub-zero}
 use native.Mathlib.Numerals.{add-one}
 use native.Mathlib.Omega.{arith}
 use borrow.Author.Tests.{eq-eqb, ne-eqb}
-use lib.Dec.{ltb, eqb}
-use lib.ListN.{length, take, drop, getD, set, length-take, length-set, List·getD-eq-default}
-use lib.Seq.{length-take-le, take-length, take-take, drop-drop, getD-take, paste, paste-zero, paste-suc}
+use lib.Dec.{eqb}
+use lib.ListN.{length, take, drop, getD, set, length-take, length-drop, length-set, List·getD-eq-default}
+use lib.Seq.{length-take-le, take-length, take-take, getD-drop, paste, paste-zero, paste-suc}
 use mir.Syntax.{w64}
 use mir.Val.{Fits}
 use Rattle.limits.specs.Limits.{largestImage}
-use Rattle.laws.specs.Cases.{split, decide, never, both-right}
+use Rattle.laws.specs.Cases.{decide}
 use Rattle.numbers.specs.Slices.{clearedFrom}
-use Rattle.hextext.specs.declared.Header.{Header}
-use Rattle.hextext.specs.declared.TextLine.{TextLine}
-use Rattle.hextext.specs.declared.TextLine.the-variants.{Good, Bad}
 use Rattle.hextext.specs.declared.Record.{Record}
 use Rattle.hextext.specs.declared.Record.the-variants.{Data, End, Fault}
-use Rattle.hextext.specs.Record.{digit, allDigits, bytesOf, recordBytes, dataOf, formed, lineOf, placed, judge}
-use Rattle.hextext.specs.RecordLaws.{judge-unformed, formed-digits, recordBytes-head, length-bytesOf}
+use Rattle.hextext.specs.Record.{digit, bytesOf, recordBytes, dataOf, formed, judge}
+use Rattle.hextext.specs.RecordLaws.{judge-unformed, formed-digits, recordBytes-head, allDigits-at, getD-bytesOf, length-bytesOf}
 use Rattle.hextext.specs.Text.{bare}
 use Rattle.hextext.specs.Lines.{lineInside, lineRecord}
-use Rattle.hexline.specs.Line.{dataByte}
-use Rattle.hexline.specs.JudgeLaws.{data-byte-in-record}
+use Rattle.hexline.specs.DigitsLaws.{digits-spell}
 use Rattle.hexline.specs.TypedLaws.{GoodDataRecord, good-data-record}
-use Rattle.hexline.specs.WrittenPairsLaws.{PairsWritten, bytesOf-drop, paste-then}
 use Rattle.hexlines.specs.Taken.{afterTaken, TakesLine}
-use Rattle.hexlines.specs.BlockLaws.{decoded}
 
 -- ---- the line end
 
@@ -117,17 +111,6 @@ takes-inside line d at n i r d′ t =
 
 -- ---- its data
 
--- 32 digits stand at a place
-pub record DigitsFrom (l : List ℕ) (from : ℕ) : Type 0 where
-  pub long : from + 32 ≤ length l
-  pub digits : allDigits (drop from l) ≡ true
-
-pub sixteen-put : (l : List ℕ) (from : ℕ) (d d′ : List ℕ) (to : ℕ) (b b′ : List ℕ) (r : ℕ) → DigitsFrom l from → length b ≡ 16 → PairsWritten l from 16 b b′ 0 r
-    → d′ ≡ paste d to b′ 16 → d′ ≡ paste d to (bytesOf (drop from l)) 16
-sixteen-put l from d d′ to b b′ r f size p e =
-    let small : r < 256 = split 256 r (λ k. never (sym (p .sum .bad k) ∙ f .digits)) (λ k. k) in
-    e ∙ rw (decoded l from b b′ r size p small, take-take 16 16 (bytesOf (drop from l)) (omega arith))
-
 -- the first i of n are in the buffer, which was d and is d′
 pub record PuttingData (l d d′ : List ℕ) (at n i : ℕ) : Type 0 where
   pub within : i ≤ n
@@ -137,17 +120,6 @@ pub record PuttingData (l d d′ : List ℕ) (at n i : ℕ) : Type 0 where
 pub putting-first : (l d : List ℕ) (at n : ℕ) → PuttingData l d d at n 0
 putting-first l d at n = record { within = omega arith; is = paste-zero d at (bytesOf (drop 9 l)); kept = refl }
 
-digits-after : (l : List ℕ) (i : ℕ) → allDigits l ≡ true → allDigits (drop i l) ≡ true
-unfolding allDigits
-digits-after l zero e = e
-digits-after [] (suc i) e = e
-digits-after (c ∷ l) (suc i) e = digits-after l i (both-right (ltb (digit c) 16) (allDigits l) e)
-
-good-header : (room at : ℕ) (t : TextLine) (n : ℕ) → Data n ≡ placed room at t → (h : Header) × (t ≡ Good h)
-unfolding placed
-good-header room at (Good h) n e = (h, refl)
-good-header room at (Bad k) n e = let z : _≡_ {A = ℕ} 0 1 = cc in absurd (omega arith)
-
 module _ (l d : List ℕ) (at n : ℕ) (e : Data n ≡ judge (min largestImage (length d)) at l) where
   good : GoodDataRecord (min largestImage (length d)) at l n
   good = good-data-record (min largestImage (length d)) at l n (sym e)
@@ -156,51 +128,48 @@ module _ (l d : List ℕ) (at n : ℕ) (e : Data n ≡ judge (min largestImage (
   unfolding dataOf
   data-is = rw (good .counts, recordBytes-head l (omega (arith, good .long)))
 
+  digit-there : (j : ℕ) → 1 ≤ j → j < length l → digit (getD l j 0) < 16
+  digit-there j first k =
+      let same : 1 + (j - 1) ≡ j = omega arith in
+      rw (getD-drop 1 l (j - 1) 0, same) at (allDigits-at (drop 1 l) (j - 1) (formed-digits l (good .good)) (simp length-drop (omega arith)))
+
   module _ (d′ : List ℕ) (i : ℕ) (h : PuttingData l d d′ at n i) where
-    -- a block more
-    pub block-digits : 16 ≤ n - i → DigitsFrom l (9 + i * 2)
-    block-digits k =
-        let e : 1 + (8 + i * 2) ≡ 9 + i * 2 = omega arith in
-        record {
-          long = omega (arith, good .long);
-          digits = rw (drop-drop (8 + i * 2) 1 l, e) at (digits-after (drop 1 l) (8 + i * 2) (formed-digits l (good .good)));
-        }
+    pub putting-high : i < n → 9 + i * 2 < length l
+    putting-high k = omega (arith, good .long)
 
-    pub block-room : 16 ≤ n - i → at + i + 16 ≤ length d′
-    block-room k = omega (arith, good .fits, h .kept)
+    pub putting-low : i < n → 9 + i * 2 + 1 < length l
+    putting-low k = omega (arith, good .long)
 
-    pub block-pair-fits : 16 ≤ n - i → Fits w64 (i * 2)
-    block-pair-fits k = omega (arith, good .fits)
+    pub putting-pair-fits : i < n → Fits w64 (i * 2)
+    putting-pair-fits k = omega (arith, good .fits)
 
-    pub block-from-fits : 16 ≤ n - i → Fits w64 (9 + i * 2)
-    block-from-fits k = omega (arith, good .fits)
+    pub putting-high-fits : i < n → Fits w64 (9 + i * 2)
+    putting-high-fits k = omega (arith, good .fits)
 
-    pub putting-block : 16 ≤ n - i → (d″ : List ℕ) → d″ ≡ paste d′ (at + i) (bytesOf (drop (9 + i * 2) l)) 16 → length d″ ≡ length d′
-        → PuttingData l d d″ at n (i + 16)
-    putting-block k d″ w same =
-        record {
-          within = omega arith;
-          is = w ∙ rw (h .is, bytesOf-drop l 9 i (omega (arith, good .long)))
-              (paste-then d at (bytesOf (drop 9 l)) i 16 (omega (arith, good .fits)) (length-bytesOf l 9 i (omega (arith, good .long))));
-          kept = same ∙ h .kept;
-        }
+    pub putting-low-fits : i < n → Fits w64 (9 + i * 2 + 1)
+    putting-low-fits k = omega (arith, good .fits)
 
-    -- a byte more
     pub putting-fits : i < n → Fits w64 (at + i)
     putting-fits k = omega (arith, good .fits)
 
     pub putting-room : i < n → at + i < length d′
     putting-room k = omega (arith, good .fits, h .kept)
 
-    pub putting-more : (b : ℕ) → i < n → b ≡ dataByte l i → PuttingData l d (set d′ (at + i) b) at n (i + 1)
-    unfolding judge
-    putting-more b k f =
-        let s = good-header (min largestImage (length d)) at (lineOf l) n e in
+    pub putting-more : (high low : ℕ) → i < n → high ≡ digit (getD l (9 + i * 2) 0) → low ≡ digit (getD l (9 + i * 2 + 1) 0)
+        → PuttingData l d (set d′ (at + i) (high % 16 * 16 + low % 16)) at n (i + 1)
+    putting-more high low k p q =
+        let f = digit-there (9 + i * 2) (omega arith) (putting-high k) in
+        let g = digit-there (9 + i * 2 + 1) (omega arith) (putting-low k) in
         record {
           within = omega arith;
-          is = rw (f, h .is, data-byte-in-record l (s .0) (s .1) i, data-is, getD-take n (bytesOf (drop 9 l)) i 0 k, add-one i)
+          is = rw (
+            h .is,
+            digits-spell l (9 + i * 2) high low p q (omega arith) .is,
+            ← getD-bytesOf l 9 i (putting-low k),
+            add-one i,
+          )
               (paste-suc d at (bytesOf (drop 9 l)) i 0 (omega (arith, good .fits)) (length-bytesOf l 9 (suc i) (omega (arith, good .long))));
-          kept = length-set d′ (at + i) b ∙ h .kept;
+          kept = length-set d′ (at + i) (high % 16 * 16 + low % 16) ∙ h .kept;
         }
 
     pub putting-end : n ≤ i → d′ ≡ paste d at (dataOf (recordBytes l)) n

@@ -1,18 +1,15 @@
 // Any line, judged from its beginning: what gives every refusal.
 ghost use mathlib.Core.Path.{_≡_};
-ghost use Prim.Native.Nat.{_+_, _≤_, min};
-ghost use lib.ListN.{length, drop};
+ghost use Prim.Native.Nat.{min};
+ghost use lib.ListN.{length};
 ghost use lib.Seq.{paste};
 ghost use Rattle.limits.specs.Limits.{largestImage};
 ghost use Rattle.hextext.specs.declared.Record.the-variants.{Data};
-ghost use Rattle.hextext.specs.Record.{bytesOf, recordBytes, dataOf, judge};
+ghost use Rattle.hextext.specs.Record.{recordBytes, dataOf, judge};
 ghost use Rattle.hexlines.specs.Taken.{TakesLine};
-ghost use Rattle.hexlines.specs.AnyLineLaws.{InsideLength, DigitsFrom, TakesRecord};
-use crate::block::BLOCK;
-use crate::block::decode;
-use crate::block::put_block;
+ghost use Rattle.hexlines.specs.AnyLineLaws.{InsideLength, TakesRecord};
 use hexline::bare_length;
-use hexline::data_byte;
+use hexline::digit;
 use hexline::judge_in_place;
 use hexline::room_in;
 use hextext::Record;
@@ -31,30 +28,17 @@ fn inside_length(line: &[u8]) -> usize
     bare_length(&line[..last])
 }
 
-// Writes the 16 bytes that the digits from a place on spell.
-fn put_16(line: &[u8], from: usize, image: &mut [u8], to: usize)
-    requires { ⌜ DigitsFrom (now line) from × (to + 16 ≤ length (now image)) ⌝ }
-    ensures { λ _. ⌜ now (image .exit) ≡ paste (now (image .entry)) to (bytesOf (drop from (now (line .entry)))) 16 ⌝ }
-{
-    let mut bytes = [0u8; BLOCK];
-    decode(line, from, &mut bytes);
-    put_block(&bytes, image, to);
-}
-
-// Writes the data of a record that has room for them, in blocks and what is left one by one.
+// Writes the data of a record that has room for them. No character is judged once more, so that the loop vectorises.
 fn put_data(line: &[u8], count: usize, image: &mut [u8], at: usize)
     requires { ⌜ Data count ≡ judge (min largestImage (length (now image))) at (now line) ⌝ }
     ensures { λ _. ⌜ now (image .exit) ≡ paste (now (image .entry)) at (dataOf (recordBytes (now (line .entry)))) count ⌝ }
 {
     let mut i: usize = 0;
     while i < count {
-        if BLOCK <= count - i {
-            put_16(line, 9 + i * 2, image, at + i);
-            i += BLOCK;
-        } else {
-            image[at + i] = data_byte(line, i);
-            i += 1;
-        }
+        let high = digit(line[9 + i * 2]);
+        let low = digit(line[9 + i * 2 + 1]);
+        image[at + i] = high % 16 * 16 + low % 16;
+        i += 1;
     }
 }
 

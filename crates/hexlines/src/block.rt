@@ -47,7 +47,7 @@ fn has_room(at: usize, size: usize) -> bool
 
 // The 16 bytes that the characters from a place on spell, and their sum modulo 256, or 256 where one is no digit. The digits are
 // validated after the loop, so that it vectorises.
-pub fn decode(line: &[u8], from: usize, bytes: &mut [u8]) -> usize
+fn decode(line: &[u8], from: usize, bytes: &mut [u8]) -> usize
     requires { ⌜ (from + 32 ≤ length (now line)) × (length (now bytes) ≡ 16) ⌝ }
     ensures { λ r. ⌜ PairsWritten (now (line .entry)) from 16 (now (bytes .entry)) (now (bytes .exit)) 0 r ⌝ }
 {
@@ -99,7 +99,7 @@ fn is_block(line: &[u8], at: usize, size: usize, bytes: &mut [u8]) -> bool
     spells_block(line, at, bytes)
 }
 
-pub fn put_block(bytes: &[u8], image: &mut [u8], at: usize)
+fn put_block(bytes: &[u8], image: &mut [u8], at: usize)
     requires { ⌜ (length (now bytes) ≡ 16) × (at + 16 ≤ length (now image)) ⌝ }
     ensures { λ _. ⌜ now (image .exit) ≡ paste (now (image .entry)) at (now (bytes .entry)) 16 ⌝ }
 {

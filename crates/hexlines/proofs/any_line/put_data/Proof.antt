@@ -1,6 +1,6 @@
 use borrow.Author.Needs.{needs}
 use Prim.Native.Nat.{_-_}
-use Rattle.hexlines.specs.AnyLineLaws.{PuttingData, putting-first, block-digits, block-room, block-pair-fits, block-from-fits, putting-block, putting-fits, putting-room, putting-more, putting-end}
+use Rattle.hexlines.specs.AnyLineLaws.{PuttingData, putting-first, putting-high, putting-low, putting-pair-fits, putting-high-fits, putting-low-fits, putting-fits, putting-room, putting-more, putting-end}
 use Rattle.hexlines.proofs.any_line.put_data.Statement.{statement}
 use Rattle.hexlines.proofs.any_line.put_data.Tie as tie
 
@@ -13,20 +13,44 @@ abbrev μ-loop : tie.MeasureT-loop
 loop-holds : tie.Need-loop-holds Inv-loop μ-loop
 loop-holds c = search (needs, putting-first)
 
-sub-if1 : tie.Need-sub-if1 Inv-loop μ-loop
-sub-if1 c = search needs
+mul-digit : tie.Need-mul-digit Inv-loop μ-loop
+mul-digit c = search (needs, putting-pair-fits)
 
-mul-put-16 : tie.Need-mul-put-16 Inv-loop μ-loop
-mul-put-16 c = search (needs, block-pair-fits)
+add-digit : tie.Need-add-digit Inv-loop μ-loop
+add-digit c = search (needs, putting-high-fits)
 
-add-put-16 : tie.Need-add-put-16 Inv-loop μ-loop
-add-put-16 c = search (needs, block-from-fits)
+shared-slice-read-digit : tie.Need-shared-slice-read-digit Inv-loop μ-loop
+shared-slice-read-digit c = search (needs, putting-high)
 
-add-put-16-2 : tie.Need-add-put-16-2 Inv-loop μ-loop
-add-put-16-2 c = search (needs, putting-fits)
+digit-requires : tie.Need-digit-requires Inv-loop μ-loop
+digit-requires c κs = search needs
 
-put-16-requires : tie.Need-put-16-requires Inv-loop μ-loop
-put-16-requires c κs = (search (needs, block-digits), search (needs, block-room))
+mul-digit-2 : tie.Need-mul-digit-2 Inv-loop μ-loop
+mul-digit-2 c = search (needs, putting-pair-fits)
+
+add-digit-2 : tie.Need-add-digit-2 Inv-loop μ-loop
+add-digit-2 c = search (needs, putting-high-fits)
+
+add-digit-3 : tie.Need-add-digit-3 Inv-loop μ-loop
+add-digit-3 c = search (needs, putting-low-fits)
+
+shared-slice-read-digit-2 : tie.Need-shared-slice-read-digit-2 Inv-loop μ-loop
+shared-slice-read-digit-2 c = search (needs, putting-low)
+
+digit-requires-2 : tie.Need-digit-requires-2 Inv-loop μ-loop
+digit-requires-2 c κs = search needs
+
+mul-image : tie.Need-mul-image Inv-loop μ-loop
+mul-image c = search needs
+
+add-image : tie.Need-add-image Inv-loop μ-loop
+add-image c = search needs
+
+add-image-2 : tie.Need-add-image-2 Inv-loop μ-loop
+add-image-2 c = search (needs, putting-fits)
+
+slice-write-image : tie.Need-slice-write-image Inv-loop μ-loop
+slice-write-image c = search (needs, putting-room)
 
 add-i : tie.Need-add-i Inv-loop μ-loop
 add-i c = search needs
@@ -35,25 +59,7 @@ loop-less : tie.Need-loop-less Inv-loop μ-loop
 loop-less c = search needs
 
 loop-again : tie.Need-loop-again Inv-loop μ-loop
-loop-again c = search (needs, putting-block)
-
-data-byte-requires : tie.Need-data-byte-requires Inv-loop μ-loop
-data-byte-requires c κs = search needs
-
-add-image : tie.Need-add-image Inv-loop μ-loop
-add-image c = search (needs, putting-fits)
-
-slice-write-image : tie.Need-slice-write-image Inv-loop μ-loop
-slice-write-image c = search (needs, putting-room)
-
-add-i-2 : tie.Need-add-i-2 Inv-loop μ-loop
-add-i-2 c = search needs
-
-loop-less-2 : tie.Need-loop-less-2 Inv-loop μ-loop
-loop-less-2 c = search needs
-
-loop-again-2 : tie.Need-loop-again-2 Inv-loop μ-loop
-loop-again-2 c = search (needs, putting-more)
+loop-again c = search (needs, putting-more)
 
 same-length : tie.Need-same-length Inv-loop μ-loop
 same-length c = search needs
@@ -68,19 +74,21 @@ put-data-spec =
     Inv-loop
     μ-loop
     loop-holds
-    sub-if1
-    mul-put-16
-    add-put-16
-    add-put-16-2
-    put-16-requires
+    mul-digit
+    add-digit
+    shared-slice-read-digit
+    digit-requires
+    mul-digit-2
+    add-digit-2
+    add-digit-3
+    shared-slice-read-digit-2
+    digit-requires-2
+    mul-image
+    add-image
+    add-image-2
+    slice-write-image
     add-i
     loop-less
     loop-again
-    data-byte-requires
-    add-image
-    slice-write-image
-    add-i-2
-    loop-less-2
-    loop-again-2
     same-length
     returns)
