@@ -1,5 +1,6 @@
 """Talks to the panel of examples/firmware on the emulated board: firmware.py HOST PROGRAM SCRATCH. The page, the lamp and the test's power
 switch (board.h) lie in a file that this program shares with the emulator: what it holds outlives the emulator, as flash does."""
+import atexit
 import functools
 import json
 import mmap
@@ -38,6 +39,7 @@ class Board:
             ["qemu-system-arm", "-M", "mps2-an386,memory-backend=page", "-display", "none", "-monitor", "none", "-serial", "stdio",
              "-object", f"memory-backend-file,id=page,size={SIZE},mem-path={MEMORY},share=on", "-kernel", PROGRAM, *words],
             stdin=subprocess.PIPE, stdout=subprocess.PIPE, bufsize=0)
+        atexit.register(self.process.kill)  # the emulator ends with the test, however that ends
         self.heard = b""
         self.lamp = 0
         must(self.answer().startswith("boot "), "no word at boot")
@@ -45,7 +47,7 @@ class Board:
     def word(self):
         """The next line of the panel."""
         while b"\n" not in self.heard:
-            must(select.select([self.process.stdout], [], [], 60)[0], "the panel is silent after", self.heard)
+            must(select.select([self.process.stdout], [], [], 20)[0], "the panel is silent after", self.heard)
             got = os.read(self.process.stdout.fileno(), 4096)
             must(got, "the emulator has ended")
             self.heard += got
@@ -128,6 +130,8 @@ def loads(board):
     texts += [b"".join(lines[:cut]) for cut in range(len(lines))]
     # a line that is longer than the panel's buffer, and others after it; lines that are no records
     texts += [lines[0] + b":" + size * b"0" + b"\n" + lines[1] for size in (521, 522, 523, 524, 2000)]
+    # a line whose start and end, joined, would be good
+    texts += [long_records(new).replace(b"\r\n", b"\r" + size * b"0" + b"\n", 1) for size in (1, 2)]
     texts += [lines[0] + line + b"".join(lines[1:]) for line in (b"\n", b"Q \n", b"R 1 2 3\n", b"R 1 2 3 18446744073709551616\n", b"hello\n")]
     for text in texts:
         must(board.load(old) == expected(old)[0] and board.lamp == 1, "a good load before a bad one")
