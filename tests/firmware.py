@@ -5,6 +5,7 @@ import functools
 import json
 import mmap
 import os
+import re
 import select
 import socket
 import struct
@@ -29,6 +30,11 @@ memory = mmap.mmap(shared.fileno(), 0x3000)
 def must(holds, *what):
     if not holds:
         sys.exit("firmware: wrong: " + " ".join(map(str, what)))
+
+
+def lines_of(text):
+    """The lines of a text, each with its LF: a CR ends none."""
+    return re.findall(rb"[^\n]*\n", text)
 
 
 class Board:
@@ -71,7 +77,7 @@ class Board:
 
     def load(self, text):
         """The text by lines; the answer to its end, or what is said where the power goes before."""
-        for line in [b"L\n", *text.splitlines(keepends=True), b"E\n"]:
+        for line in [b"L\n", *lines_of(text), b"E\n"]:
             said = self.ask(line)
             if said.startswith("boot "):
                 return said
@@ -124,7 +130,7 @@ def loads(board):
         reboot(board)
         must(board.shown() == shown, "a good load after a power cycle")
         done += 1
-    lines = new.splitlines(keepends=True)
+    lines = lines_of(new)
     texts = [bad, example("kind100"), b"", b"E" + new, new + lines[-1]]
     texts += [b"".join(lines[:lost] + lines[lost + 1 :]) for lost in range(len(lines))]
     texts += [b"".join(lines[:cut]) for cut in range(len(lines))]
@@ -153,18 +159,20 @@ def long_records(text):
     for at in range(0, len(image), 255):
         record = bytes([len(image[at : at + 255]), at >> 8, at & 255, 0]) + image[at : at + 255]
         said += b":" + (record + bytes([-sum(record) & 255])).hex().upper().encode() + b"\r\n"
-    must(max(map(len, said.splitlines(keepends=True))) == 523, "the longest line")
+    must(max(map(len, lines_of(said))) == 523, "the longest line")
     return said + b":00000001FF\r\n"
 
 
 def lines_and_power(old, new):
     """The power goes after each line of a load, and after its end; the emulator is killed and started again."""
-    steps = [b"L\n", *new.splitlines(keepends=True), b"E\n"]
+    steps = [b"L\n", *lines_of(new), b"E\n"]
     for count in range(len(steps) + 1):
         board = Board()
         must(board.load(old) == expected(old)[0], "a good load before the power goes")
         for line in steps[:count]:
             board.ask(line)
+        if 0 < count < len(steps):
+            must(board.shown() == [DARK[0], "level 2 loading"] and board.lamp == 0, "while a text comes, at line", count)
         board.lose_power()
         must((memory[SEAL_AT:PAGE_SIZE] == SEAL) == (count in (0, len(steps))), "the seal after", count, "lines")
         board = Board()
