@@ -154,7 +154,8 @@ pub extern "C" fn bjorkneve_panel_status(panel: Panel) -> StatusForC
     lamp::status_for_c(panel)
 }
 
-// Takes a reading by the panel's image, which is judged anew at each call. Refused as by bjorkneve_reading; 5 where the lamp is not green.
+// Takes a reading by the panel's image, which is judged anew at each call. Refused as by bjorkneve_reading; 5 where the lamp is not green,
+// or 20.
 #[no_mangle]
 pub extern "C" fn bjorkneve_panel_reading(panel: Panel, image: &[u8], counts: Counts) -> AnswerForC
     ensures { λ r. ⌜ r ≡ answerForC (readingShown (standing panel (now (image .entry))) counts) ⌝ }
@@ -162,7 +163,7 @@ pub extern "C" fn bjorkneve_panel_reading(panel: Panel, image: &[u8], counts: Co
     reading::answer_for_c(lamp::reading(panel, image, counts))
 }
 
-// The gauge of the panel's image, which is judged anew. Refused as by bjorkneve_verdict; 5 where the lamp is not green.
+// The gauge of the panel's image, which is judged anew. Refused as by bjorkneve_verdict; 5 where the lamp is not green, or 20.
 #[no_mangle]
 pub extern "C" fn bjorkneve_panel_gauge(panel: Panel, image: &[u8]) -> GaugeForC
     ensures { λ r. ⌜ r ≡ gaugeForC (gaugeTold (standing panel (now (image .entry)))) ⌝ }

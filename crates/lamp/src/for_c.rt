@@ -8,7 +8,7 @@ ghost use mathlib.Core.Path.{_≡_};
 ghost use Rattle.lamp.specs.ForC.{statusForC, gaugeForC};
 
 // How a panel's last load stands. The lamp is green, number and detail are 0 and length has the bytes of the image; or the refusal's number
-// and detail; or all three are 0 while a text is under way. The level is 0 in a panel of a level that there is not.
+// and detail; or all three are 0 while a text is under way. A level above 255 is kept as 0; neither is a level.
 #[repr(C)]
 pub struct StatusForC {
     pub number: u32,

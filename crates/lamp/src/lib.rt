@@ -1,6 +1,6 @@
 // A panel by value, over a lent image: its level, how far its last load has come, its lamp, and readings while the lamp is green.
 
-// The panel itself. Its caller keeps it, and hands it to the next call; any bytes are a panel. The lamp is green at stage AT_IMAGE alone.
+// A panel. Its caller keeps it, and hands it to the next call; any bytes are a panel, and its fields are the library's own.
 #[repr(C)]
 pub struct Panel {
     // while a text is under way, how many of its lines were good; without an image, the detail of the refusal
