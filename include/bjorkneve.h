@@ -149,7 +149,7 @@ typedef struct {
     uint8_t mark;
 } BjorkneveAnswer;
 
-/* The panel itself. Its caller keeps it, and hands it to the next call; any bytes are a panel. The lamp is green at stage AT_IMAGE alone. */
+/* A panel. Its caller keeps it, and hands it to the next call; any bytes are a panel, and its fields are the library's own. */
 typedef struct {
     /* while a text is under way, how many of its lines were good; without an image, the detail of the refusal */
     uint64_t lines_or_detail;
@@ -162,7 +162,7 @@ typedef struct {
 } BjorknevePanel;
 
 /* How a panel's last load stands. The lamp is green, number and detail are 0 and length has the bytes of the image; or the refusal's number
- * and detail; or all three are 0 while a text is under way. The level is 0 in a panel of a level that there is not. */
+ * and detail; or all three are 0 while a text is under way. A level above 255 is kept as 0; neither is a level. */
 typedef struct {
     uint32_t number;
     uint64_t detail;
@@ -250,13 +250,14 @@ BJORKNEVE_MUST_USE BjorknevePanel bjorkneve_panel_end(BjorknevePanel panel, uint
 /* How the panel's last load stands: the lamp, and what the load answered. */
 BJORKNEVE_MUST_USE BjorkneveStatus bjorkneve_panel_status(BjorknevePanel panel);
 
-/* Takes a reading by the panel's image, which is judged anew at each call. Refused as by bjorkneve_reading; 5 where the lamp is not green. */
+/* Takes a reading by the panel's image, which is judged anew at each call. Refused as by bjorkneve_reading; 5 where the lamp is not green,
+ * or 20. */
 BJORKNEVE_MUST_USE BjorkneveAnswer bjorkneve_panel_reading(
     BjorknevePanel panel,
     const uint8_t *image, uint64_t image_length,
     BjorkneveCounts counts);
 
-/* The gauge of the panel's image, which is judged anew. Refused as by bjorkneve_verdict; 5 where the lamp is not green. */
+/* The gauge of the panel's image, which is judged anew. Refused as by bjorkneve_verdict; 5 where the lamp is not green, or 20. */
 BJORKNEVE_MUST_USE BjorkneveGauge bjorkneve_panel_gauge(BjorknevePanel panel, const uint8_t *image, uint64_t image_length);
 
 /* The library has the same layout on every machine. Where a compiler has another one, this is refused. */
