@@ -164,7 +164,8 @@ fn take_line(panel: Panel, line: &[u8], image: &mut [u8]) -> Panel
     }
 }
 
-// One line of the text, with its line end.
+// One line of the text, with its line end. A panel that stays as it is is returned by its fields, as the others are: the compiler then
+// keeps all of them in registers.
 pub fn line(panel: Panel, line: &[u8], image: &mut [u8]) -> Panel
     ensures { λ r. ⌜ standing r (now (image .exit)) ≡ lineTaken (now (line .entry)) (standing panel (now (image .entry))) ⌝ }
 {
@@ -174,7 +175,13 @@ pub fn line(panel: Panel, line: &[u8], image: &mut [u8]) -> Panel
     if panel.stage == AT_END_RECORD {
         return stop(panel, image);
     }
-    panel
+    Panel {
+        lines_or_detail: panel.lines_or_detail,
+        size_or_number: panel.size_or_number,
+        level: panel.level,
+        stage: panel.stage,
+        first: panel.first,
+    }
 }
 
 fn put_first(image: &mut [u8], first: u8)
