@@ -16,7 +16,7 @@ mod block;
 mod any_line;
 
 // Takes one line of a text, with its line end, with `at` bytes of image before it. Where it is refused, the image is all zeros.
-// `take_any` is called in two places, and its answer has a local of its own: of other shapes the compiler made slower code.
+// The answer of `take_any` has a local of its own: shared with the other one it would go by way of memory on every line.
 pub fn take_line(line: &[u8], at: usize, image: &mut [u8]) -> Record
     ensures { λ r. ⌜ TakesLine (now (line .entry)) at (now (image .entry)) r (now (image .exit)) ⌝ }
 {
