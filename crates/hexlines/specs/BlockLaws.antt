@@ -13,8 +13,8 @@ use Rattle.limits.specs.Limits.{largestImage}
 use Rattle.laws.specs.Cases.{decide, never, both-left, both-right}
 use Rattle.laws.specs.Sums.{total}
 use Rattle.hextext.specs.declared.Record.{Record}
-use Rattle.hextext.specs.declared.Record.the-variants.{Data}
-use Rattle.hextext.specs.Record.{digit, allDigits, bytesOf, recordBytes, dataOf, formed, summed, lineOf, placed, judge}
+use Rattle.hextext.specs.declared.Record.the-variants.{Data, End}
+use Rattle.hextext.specs.Record.{digit, allDigits, bytesOf, recordBytes, dataOf, formed, summed, lineOf, typed, placed, judge}
 use Rattle.hextext.specs.RecordLaws.{byteAt, allDigits-end, bytes-total-end, formed-at, recordBytes-head, digit-low}
 use Rattle.hextext.specs.Text.{bare}
 use Rattle.hextext.specs.Lines.{lineInside, lineRecord}
@@ -24,7 +24,7 @@ use Rattle.hexline.specs.PairsLaws.{PairsAddUp, add-up-one, add-up-then}
 use Rattle.hexline.specs.TypedLaws.{typed-data}
 use Rattle.hexline.specs.WrittenPairsLaws.{PairsWritten, WritingPairs, writing-more}
 use Rattle.hexlines.specs.Taken.{TakesLine}
-use Rattle.hexlines.specs.LettersLaws.{When, when-yes, HeadSpelled}
+use Rattle.hexlines.specs.LettersLaws.{When, when-yes, HeadSpelled, endRecord}
 
 -- ---- length
 
@@ -239,3 +239,11 @@ block-taken line at d d′ bytes is h w t e =
     let record′ : lineRecord (min largestImage (length d)) at line ≡ Data 16 =
     rw (eq-eqb (getD line (length line - 1) 0) 10 (i .1), i .0) (b .answers) in
     record { taken-whole = λ q. record { answers = sym record′; holds = rw (record′, i .0, b .holds) e }; otherwise = λ q. never (sym q) }
+
+-- ---- the end record
+
+pub takes-end-record : (line : List ℕ) (at : ℕ) (d : List ℕ) (answer : Bool) → When answer (line ≡ endRecord) → answer ≡ true → TakesLine line at d End d
+unfolding lineRecord lineInside bare judge placed lineOf typed formed summed allDigits digit bytesOf recordBytes total
+takes-end-record line at d answer w t =
+    let same : line ≡ endRecord = w .says t in
+    record { answers = rw same; holds = rw same }

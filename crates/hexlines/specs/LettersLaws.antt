@@ -2,13 +2,14 @@
 use mathlib.Core.Path.{_≡_, refl, sym, _∙_}
 use mathlib.Core.Bool.{Bool, true, false, not}
 use mathlib.Core.List.{List, [], _∷_}
-use Prim.Native.Nat.{ℕ, zero, suc, _+_, _*_, _/_, _%_, _≤_, _<_}
+use Prim.Native.Nat.{ℕ, zero, suc, _+_, _-_, _*_, _/_, _%_, _≤_, _<_}
 use native.Mathlib.Omega.{arith}
-use lib.ListN.{getD}
+use lib.ListN.{length, getD}
+use lib.Seq.{ext-getD}
 use Rattle.laws.specs.Bytes.{Bytes}
 use Rattle.laws.specs.BytesLaws.{bytes-nil, bytes-cons}
 use Rattle.laws.specs.Cases.{split, never}
-use Rattle.numbers.specs.Fields.{numberAt}
+use Rattle.numbers.specs.Fields.{littleEndian, numberAt}
 use Rattle.numbers.specs.FieldsLaws.{number-of-halves, byte-at}
 use Rattle.hextext.specs.Record.{digit}
 use Rattle.hextext.specs.RecordLaws.{digit-decimal, digit-upper-case, digit-lower-case, digit-high, byteAt}
@@ -71,12 +72,12 @@ same-byte (suc w) l m p q f g e (suc i) h =
 
 -- ---- a line's head
 
--- the eight characters after the colon, as one number
-pub record HeadIn (l : List ℕ) (r : ℕ) : Type 0 where
-  pub is : r ≡ numberAt 8 l 1
+-- eight characters from a place on, as one number
+pub record EightAt (l : List ℕ) (from r : ℕ) : Type 0 where
+  pub is : r ≡ numberAt 8 l from
   pub bytes : Bytes l
 
--- those of a data record of 16 bytes at an address
+-- those after the colon of a data record of 16 bytes at an address
 pub record HeadNumber (at r : ℕ) : Type 0 where
   pub high : ℕ
   pub middle : ℕ
@@ -108,7 +109,7 @@ head-bytes high middle low h m k =
     bytes-cons 49 (48 ∷ 48 ∷ high ∷ middle ∷ low ∷ 48 ∷ 48 ∷ []) (omega arith)
     (bytes-cons 48 (48 ∷ high ∷ middle ∷ low ∷ 48 ∷ 48 ∷ []) (omega arith) zero)
 
-pub head-same : (l : List ℕ) (at head other : ℕ) → at < 4096 → HeadIn l head → HeadNumber at other → head ≡ other → When true (HeadSpelled l at)
+pub head-same : (l : List ℕ) (at head other : ℕ) → at < 4096 → EightAt l 1 head → HeadNumber at other → head ≡ other → When true (HeadSpelled l at)
 unfolding digit
 head-same l at head other small h n s =
     let characters : List ℕ = 49 ∷ 48 ∷ 48 ∷ n .high ∷ n .middle ∷ n .low ∷ 48 ∷ 48 ∷ [] in
@@ -146,3 +147,41 @@ byte-same l i byte found other small t n s =
     let first : getD l i 0 ≡ n .high = omega (arith, t .is, t .small, t .second-small, n .is .is, n .is .small, n .is .second-small) in
     let second : getD l (i + 1) 0 ≡ n .low = omega (arith, t .is, t .small, t .second-small, n .is .is, n .is .small, n .is .second-small) in
     record { says = λ q. spells l i (n .high) (n .low) byte first second (omega (arith, n .highs)) (omega (arith, n .lows)) (omega (arith, n .highs, n .lows)) }
+
+-- ---- the end record
+
+abbrev pub endRecord : List ℕ
+endRecord = 58 ∷ 48 ∷ 48 ∷ 48 ∷ 48 ∷ 48 ∷ 48 ∷ 48 ∷ 49 ∷ 70 ∷ 70 ∷ 10 ∷ []
+
+end-bytes : Bytes endRecord
+end-bytes =
+    let from11 : Bytes (10 ∷ []) = bytes-cons 10 ([]) (omega arith) bytes-nil in
+    let from10 : Bytes (70 ∷ 10 ∷ []) = bytes-cons 70 (10 ∷ []) (omega arith) from11 in
+    let from9 : Bytes (70 ∷ 70 ∷ 10 ∷ []) = bytes-cons 70 (70 ∷ 10 ∷ []) (omega arith) from10 in
+    let from8 : Bytes (49 ∷ 70 ∷ 70 ∷ 10 ∷ []) = bytes-cons 49 (70 ∷ 70 ∷ 10 ∷ []) (omega arith) from9 in
+    let from7 : Bytes (48 ∷ 49 ∷ 70 ∷ 70 ∷ 10 ∷ []) = bytes-cons 48 (49 ∷ 70 ∷ 70 ∷ 10 ∷ []) (omega arith) from8 in
+    let from6 : Bytes (48 ∷ 48 ∷ 49 ∷ 70 ∷ 70 ∷ 10 ∷ []) = bytes-cons 48 (48 ∷ 49 ∷ 70 ∷ 70 ∷ 10 ∷ []) (omega arith) from7 in
+    let from5 : Bytes (48 ∷ 48 ∷ 48 ∷ 49 ∷ 70 ∷ 70 ∷ 10 ∷ []) = bytes-cons 48 (48 ∷ 48 ∷ 49 ∷ 70 ∷ 70 ∷ 10 ∷ []) (omega arith) from6 in
+    let from4 : Bytes (48 ∷ 48 ∷ 48 ∷ 48 ∷ 49 ∷ 70 ∷ 70 ∷ 10 ∷ []) = bytes-cons 48 (48 ∷ 48 ∷ 48 ∷ 49 ∷ 70 ∷ 70 ∷ 10 ∷ []) (omega arith) from5 in
+    let from3 : Bytes (48 ∷ 48 ∷ 48 ∷ 48 ∷ 48 ∷ 49 ∷ 70 ∷ 70 ∷ 10 ∷ []) = bytes-cons 48 (48 ∷ 48 ∷ 48 ∷ 48 ∷ 49 ∷ 70 ∷ 70 ∷ 10 ∷ []) (omega arith) from4 in
+    let from2 : Bytes (48 ∷ 48 ∷ 48 ∷ 48 ∷ 48 ∷ 48 ∷ 49 ∷ 70 ∷ 70 ∷ 10 ∷ []) = bytes-cons 48 (48 ∷ 48 ∷ 48 ∷ 48 ∷ 48 ∷ 49 ∷ 70 ∷ 70 ∷ 10 ∷ []) (omega arith) from3 in
+    let from1 : Bytes (48 ∷ 48 ∷ 48 ∷ 48 ∷ 48 ∷ 48 ∷ 48 ∷ 49 ∷ 70 ∷ 70 ∷ 10 ∷ []) = bytes-cons 48 (48 ∷ 48 ∷ 48 ∷ 48 ∷ 48 ∷ 48 ∷ 49 ∷ 70 ∷ 70 ∷ 10 ∷ []) (omega arith) from2 in
+    bytes-cons 58 (48 ∷ 48 ∷ 48 ∷ 48 ∷ 48 ∷ 48 ∷ 48 ∷ 49 ∷ 70 ∷ 70 ∷ 10 ∷ []) (omega arith) from1
+
+-- a line of as many characters, whose first eight and last eight are the end record's
+module _ (l : List ℕ) (long : length l ≡ 12) (start rest first last : ℕ) (a : EightAt l 0 start) (b : EightAt l 4 rest)
+    (f : first ≡ numberAt 8 (58 ∷ 48 ∷ 48 ∷ 48 ∷ 48 ∷ 48 ∷ 48 ∷ 48 ∷ []) 0) (g : last ≡ numberAt 8 (48 ∷ 48 ∷ 48 ∷ 48 ∷ 49 ∷ 70 ∷ 70 ∷ 10 ∷ []) 0)
+    (s : start ≡ first) (t : rest ≡ last) where
+  at-place : (i : ℕ) → i < length l → getD l i 0 ≡ getD endRecord i 0
+  unfolding numberAt littleEndian
+  at-place i h =
+      split 8 i
+      (λ k.
+      let e : 4 + (i - 4) ≡ i = omega arith in
+      rw e at (same-byte 8 l endRecord 4 4 (b .bytes) end-bytes (sym (b .is) ∙ t ∙ g) (i - 4) (omega arith)))
+      (λ k.
+      let e : 0 + i ≡ i = omega arith in
+      rw e at (same-byte 8 l endRecord 0 0 (a .bytes) end-bytes (sym (a .is) ∙ s ∙ f) i k))
+
+  pub end-is : When true (l ≡ endRecord)
+  end-is = record { says = λ q. ext-getD 0 l endRecord long at-place }

@@ -1,10 +1,10 @@
 // Digits as characters in upper or lower case, and characters compared with a line's, several at once, as one number.
 ghost use mathlib.Core.Path.{_≡_};
-ghost use Prim.Native.Nat.{_≤_, _<_};
+ghost use Prim.Native.Nat.{_+_, _≤_, _<_};
 ghost use lib.ListN.{length};
 ghost use Rattle.hextext.specs.Record.{digit as digitOf};
 ghost use Rattle.hexline.specs.DigitsLaws.{SpellsByte};
-ghost use Rattle.hexlines.specs.LettersLaws.{When, HeadIn, HeadNumber, TwoCharacters, ByteNumber, HeadSpelled};
+ghost use Rattle.hexlines.specs.LettersLaws.{When, endRecord, EightAt, HeadNumber, TwoCharacters, ByteNumber, HeadSpelled};
 use numbers::fields::number_of_8;
 
 // The character of a digit. No branch goes by the digit: a checksum's digits can't be predicted.
@@ -20,24 +20,24 @@ fn character(digit: usize, lower: bool) -> u8
     value + 48 + letter * 7
 }
 
-// The eight characters after a line's colon.
-fn head_in(line: &[u8]) -> u64
-    requires { ⌜ 9 ≤ length (now line) ⌝ }
-    ensures { λ r. ⌜ HeadIn (now (line .entry)) r ⌝ }
+// Eight characters of a line from a place on.
+fn eight_at(line: &[u8], from: usize) -> u64
+    requires { ⌜ from + 8 ≤ length (now line) ⌝ }
+    ensures { λ r. ⌜ EightAt (now (line .entry)) from r ⌝ }
 {
     number_of_8([
-        line[1],
-        line[2],
-        line[3],
-        line[4],
-        line[5],
-        line[6],
-        line[7],
-        line[8],
+        line[from],
+        line[from + 1],
+        line[from + 2],
+        line[from + 3],
+        line[from + 4],
+        line[from + 5],
+        line[from + 6],
+        line[from + 7],
     ])
 }
 
-// Those of a data record of 16 bytes at an address below 4,096.
+// Those after the colon of a data record of 16 bytes, at an address below 4,096.
 fn head_of(at: usize, lower: bool) -> u64
     requires { ⌜ at < 4096 ⌝ }
     ensures { λ r. ⌜ HeadNumber at r ⌝ }
@@ -53,7 +53,7 @@ pub fn head_is(line: &[u8], at: usize) -> bool
     requires { ⌜ (9 ≤ length (now line)) × (at < 4096) ⌝ }
     ensures { λ r. ⌜ When r (HeadSpelled (now (line .entry)) at) ⌝ }
 {
-    let head = head_in(line);
+    let head = eight_at(line, 1);
     if head == head_of(at, false) {
         return true;
     }
@@ -90,4 +90,22 @@ pub fn check_is(line: &[u8], byte: usize) -> bool
         return true;
     }
     false
+}
+
+// Whether a line is the end record as most writers make it, `:00000001FF` and LF, which every text has once.
+pub fn is_end_record(line: &[u8]) -> bool
+    ensures { λ r. ⌜ When r (now (line .entry) ≡ endRecord) ⌝ }
+{
+    if line.len() != 12 {
+        return false;
+    }
+    let start = eight_at(line, 0);
+    if start != number_of_8([b':', b'0', b'0', b'0', b'0', b'0', b'0', b'0']) {
+        return false;
+    }
+    let rest = eight_at(line, 4);
+    if rest != number_of_8([b'0', b'0', b'0', b'0', b'1', b'F', b'F', b'\n']) {
+        return false;
+    }
+    true
 }

@@ -5,6 +5,7 @@ use block::BLOCK;
 use block::has_block_length;
 use block::take_block;
 use hextext::Record;
+use letters::is_end_record;
 
 // Characters compared.
 mod letters;
@@ -20,6 +21,9 @@ mod any_line;
 pub fn take_line(line: &[u8], at: usize, image: &mut [u8]) -> Record
     ensures { λ r. ⌜ TakesLine (now (line .entry)) at (now (image .entry)) r (now (image .exit)) ⌝ }
 {
+    if is_end_record(line) {
+        return Record::End;
+    }
     if !has_block_length(line) {
         let taken = take_any(line, at, image);
         return taken;

@@ -1,7 +1,13 @@
 use borrow.Author.Needs.{needs}
-use Rattle.hexlines.specs.BlockLaws.{length-is, takes-block, takes-other}
+use Rattle.hexlines.specs.BlockLaws.{length-is, takes-block, takes-other, takes-end-record}
 use Rattle.hexlines.proofs.take_line.Statement.{statement}
 use Rattle.hexlines.proofs.take_line.Tie as tie
+
+is-end-record-requires : tie.Need-is-end-record-requires
+is-end-record-requires c κs = search needs
+
+returns : tie.Need-returns
+returns c = search (needs, takes-end-record)
 
 has-block-length-requires : tie.Need-has-block-length-requires
 has-block-length-requires c κs = search needs
@@ -12,8 +18,8 @@ take-any-requires c κs = search needs
 same-length : tie.Need-same-length
 same-length c = search needs
 
-returns : tie.Need-returns
-returns c = search needs
+returns-2 : tie.Need-returns-2
+returns-2 c = search needs
 
 take-block-requires : tie.Need-take-block-requires
 take-block-requires c κs = search (needs, length-is)
@@ -21,8 +27,8 @@ take-block-requires c κs = search (needs, length-is)
 same-length-2 : tie.Need-same-length-2
 same-length-2 c = search needs
 
-returns-2 : tie.Need-returns-2
-returns-2 c = search (needs, takes-block)
+returns-3 : tie.Need-returns-3
+returns-3 c = search (needs, takes-block)
 
 take-any-requires-2 : tie.Need-take-any-requires-2
 take-any-requires-2 c κs = search needs
@@ -30,20 +36,22 @@ take-any-requires-2 c κs = search needs
 same-length-3 : tie.Need-same-length-3
 same-length-3 c = search needs
 
-returns-3 : tie.Need-returns-3
-returns-3 c = search (needs, takes-other)
+returns-4 : tie.Need-returns-4
+returns-4 c = search (needs, takes-other)
 
 pub take-line-spec : {M : Type 1} → statement M
 take-line-spec =
     tie.close
     (tie.spec
+    is-end-record-requires
+    returns
     has-block-length-requires
     take-any-requires
     same-length
-    returns
+    returns-2
     take-block-requires
     same-length-2
-    returns-2
+    returns-3
     take-any-requires-2
     same-length-3
-    returns-3)
+    returns-4)

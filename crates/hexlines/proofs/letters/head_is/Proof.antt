@@ -3,8 +3,8 @@ use Rattle.hexlines.specs.LettersLaws.{when-not, head-same}
 use Rattle.hexlines.proofs.letters.head_is.Statement.{statement}
 use Rattle.hexlines.proofs.letters.head_is.Tie as tie
 
-head-in-requires : tie.Need-head-in-requires
-head-in-requires c κs = search needs
+eight-at-requires : tie.Need-eight-at-requires
+eight-at-requires c κs = search needs
 
 head-of-requires : tie.Need-head-of-requires
 head-of-requires c κs = search needs
@@ -24,4 +24,4 @@ returns-3 c = search (needs, when-not)
 pub head-is-spec : {M : Type 1} → statement M
 head-is-spec =
     tie.close
-    (tie.spec head-in-requires head-of-requires returns head-of-requires-2 returns-2 returns-3)
+    (tie.spec eight-at-requires head-of-requires returns head-of-requires-2 returns-2 returns-3)
