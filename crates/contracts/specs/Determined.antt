@@ -7,6 +7,7 @@ use Rattle.whole.proofs.rounding as rounding
 use Rattle.numbers.proofs.fields as fields
 use Rattle.numbers.proofs.slices as slices
 use Rattle.refusals.proofs as refusals
+use Rattle.hexdigits.proofs as hexdigits
 use Rattle.hexline.proofs as hexline
 use Rattle.hexread.proofs as hexread
 use Rattle.hexlines.proofs as hexlines
@@ -101,13 +102,17 @@ filled-for-c-determined _ _ _ _ _ _ = answers
 pub settled-determined : Determines refusals.settled.ended refusals.settled.Reads.Learnt
 settled-determined _ _ _ _ _ _ p q = next (first (determined (p .same) (q .same), determined (p .cleared) (q .cleared)))
 
--- hexline
-pub digit-determined : Determines hexline.digit.ended hexline.digit.Reads.Learnt
+-- hexdigits
+pub digit-determined : Determines hexdigits.digit.ended hexdigits.digit.Reads.Learnt
 digit-determined _ _ _ _ _ _ = answers
 
-pub greatest-determined : Determines hexline.greatest.ended hexline.greatest.Reads.Learnt
-greatest-determined _ _ _ _ _ _ = answers
+pub digits-sum-determined : Determines hexdigits.digits_sum.ended hexdigits.digits_sum.Reads.Learnt
+digits-sum-determined _ _ _ _ _ _ = answers
 
+pub put-bytes-determined : Determines hexdigits.put_bytes.ended hexdigits.put_bytes.Reads.Learnt
+put-bytes-determined _ _ _ _ _ _ p q = next (first (determined (p .answers) (q .answers), determined (p .holds) (q .holds)))
+
+-- hexline
 pub judge-line-determined : Determines hexline.judge_line.ended hexline.judge_line.Reads.Learnt
 judge-line-determined _ _ _ _ _ _ = answers
 
@@ -131,6 +136,9 @@ bare-length-determined _ _ _ _ _ _ = answers
 
 pub next-line-determined : Determines hexline.next_line.ended hexline.next_line.Reads.Learnt
 next-line-determined _ _ _ _ _ _ = answers
+
+pub take-record-determined : Determines hexline.take_record.ended hexline.take_record.Reads.Learnt
+take-record-determined _ _ _ _ _ _ p q = next (next (first (determined (p .answers) (q .answers), determined (p .holds) (q .holds))))
 
 -- hexread
 pub read-determined : Determines hexread.read.ended hexread.read.Reads.Learnt

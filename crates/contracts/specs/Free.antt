@@ -6,6 +6,7 @@ use Rattle.whole.proofs.rounding as rounding
 use Rattle.numbers.proofs.fields as fields
 use Rattle.numbers.proofs.slices as slices
 use Rattle.refusals.proofs as refusals
+use Rattle.hexdigits.proofs as hexdigits
 use Rattle.hexline.proofs as hexline
 use Rattle.hexread.proofs as hexread
 use Rattle.hexlines.proofs as hexlines
@@ -99,13 +100,17 @@ filled-for-c-free _ _ _ = refl
 pub settled-free : AsksNothing refusals.settled.ended refusals.settled.Reads.requires
 settled-free _ _ _ = refl
 
--- hexline
-pub digit-free : AsksNothing hexline.digit.ended hexline.digit.Reads.requires
+-- hexdigits
+pub digit-free : AsksNothing hexdigits.digit.ended hexdigits.digit.Reads.requires
 digit-free _ _ _ = refl
 
-pub greatest-free : AsksNothing hexline.greatest.ended hexline.greatest.Reads.requires
-greatest-free _ _ _ = refl
+pub digits-sum-free : AsksNothing hexdigits.digits_sum.ended hexdigits.digits_sum.Reads.requires
+digits-sum-free _ _ _ = refl
 
+pub put-bytes-free : AsksNothing hexdigits.put_bytes.ended hexdigits.put_bytes.Reads.requires
+put-bytes-free _ _ _ = refl
+
+-- hexline
 pub judge-line-free : AsksNothing hexline.judge_line.ended hexline.judge_line.Reads.requires
 judge-line-free _ _ _ = refl
 
@@ -129,6 +134,9 @@ bare-length-free _ _ _ = refl
 
 pub next-line-free : AsksNothing hexline.next_line.ended hexline.next_line.Reads.requires
 next-line-free _ _ _ = refl
+
+pub take-record-free : AsksNothing hexline.take_record.ended hexline.take_record.Reads.requires
+take-record-free _ _ _ = refl
 
 -- hexread
 pub read-free : AsksNothing hexread.read.ended hexread.read.Reads.requires

@@ -15,7 +15,8 @@ use Rattle.hextext.specs.declared.Header.{Header}
 use Rattle.hextext.specs.declared.TextLine.the-variants.{Good, Bad}
 use Rattle.hextext.specs.Record.{digit, allDigits, bytesOf, recordBytes, dataOf, formed, summed, header, lineOf}
 use Rattle.hextext.specs.RecordLaws.{digit-low, digit-decimal, digit-between, digit-upper-case, digit-gap, digit-lower-case, digit-high, byteAt, bytesOf-more, bytesOf-end, getD-bytesOf, allDigits-at, formed-short, formed-at, formed-digits, formed-length}
-use Rattle.hexline.specs.Line.{digitsSum, dataByte}
+use Rattle.hexdigits.specs.Digits.{digitsSum}
+use Rattle.hexline.specs.Line.{dataByte}
 
 -- ---- a byte of a line
 

@@ -1,7 +1,6 @@
 pub mod Line
-pub mod DigitsLaws
-pub mod PairsLaws
-pub mod WrittenPairsLaws
+pub mod Taken
 pub mod JudgeLaws
 pub mod TypedLaws
+pub mod TakenLaws
 pub mod EndsLaws

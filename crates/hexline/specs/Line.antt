@@ -1,15 +1,10 @@
--- What is asked of a line beside its record: the sum of its digits, a data byte, whether it ends at a place.
+-- What is asked of a line beside its record: a data byte, whether it ends at a place.
 use mathlib.Core.Bool.{cond, _&&_}
 use mathlib.Core.List.{List}
 use Prim.Native.Nat.{ℕ, _+_, _%_}
 use lib.Dec.{eqb}
-use lib.ListN.{length, getD}
-use Rattle.laws.specs.Sums.{total}
-use Rattle.hextext.specs.Record.{allDigits, bytesOf, recordBytes, dataOf}
-
--- the sum modulo 256 of the bytes that pairs of digits spell, 256 where the characters are no such pairs
-unfoldable pub digitsSum : List ℕ → ℕ
-digitsSum l = cond (eqb (length l % 2) 0 && allDigits l) (total (bytesOf l) % 256) 256
+use lib.ListN.{getD}
+use Rattle.hextext.specs.Record.{recordBytes, dataOf}
 
 -- data byte i of a line, 0 after the last. In a record it is below 256 as it stands
 unfoldable pub dataByte : (line : List ℕ) (i : ℕ) → ℕ

@@ -1,11 +1,16 @@
--- Characters that spell digits, and what it says of a line's characters that they and other ones are the same number.
-use mathlib.Core.Path.{_≡_, refl, sym, _∙_}
+-- Characters that spell digits, several at once as one number.
+use mathlib.Core.Path.{_≡_, refl, sym, ap, _∙_}
 use mathlib.Core.Bool.{Bool, true, false, not}
 use mathlib.Core.List.{List, [], _∷_}
-use Prim.Native.Nat.{ℕ, zero, suc, _+_, _-_, _*_, _/_, _%_, _≤_, _<_}
+use Prim.Native.Nat.{ℕ, zero, suc, _+_, _-_, _*_, _/_, _%_, _^_, _≤_, _<_}
 use native.Mathlib.Omega.{arith}
+use lib.Bits.{bitAnd, and-block, and-mask, and-le-r}
+use borrow.Author.Tests.{eqb-true}
+use lib.Dec.{eqb}
 use lib.ListN.{length, getD}
 use lib.Seq.{ext-getD}
+use mir.Syntax.{w32}
+use mir.Val.{Fits}
 use Rattle.laws.specs.Bytes.{Bytes}
 use Rattle.laws.specs.BytesLaws.{bytes-nil, bytes-cons}
 use Rattle.laws.specs.Cases.{split, never}
@@ -13,7 +18,7 @@ use Rattle.numbers.specs.Fields.{littleEndian, numberAt}
 use Rattle.numbers.specs.FieldsLaws.{number-of-halves, byte-at}
 use Rattle.hextext.specs.Record.{digit}
 use Rattle.hextext.specs.RecordLaws.{digit-decimal, digit-upper-case, digit-lower-case, digit-high, byteAt}
-use Rattle.hexline.specs.DigitsLaws.{SpellsByte}
+use Rattle.hexdigits.specs.DigitsLaws.{SpellsByte}
 
 -- ---- an answer that is yes only where something holds
 
@@ -70,83 +75,197 @@ same-byte (suc w) l m p q f g e (suc i) h =
     let b : q + suc i ≡ q + 1 + i = omega arith in
     rw (a, b) (same-byte w l m (p + 1) (q + 1) f g (same-low-byte w l m p q f g e .1) i (omega arith))
 
--- ---- a line's head
-
 -- eight characters from a place on, as one number
 pub record EightAt (l : List ℕ) (from r : ℕ) : Type 0 where
   pub is : r ≡ numberAt 8 l from
   pub bytes : Bytes l
 
--- those after the colon of a data record of 16 bytes at an address
-pub record HeadNumber (at r : ℕ) : Type 0 where
-  pub high : ℕ
-  pub middle : ℕ
-  pub low : ℕ
-  pub highs : digit high ≡ at / 256
-  pub middles : digit middle ≡ at / 16 % 16
-  pub lows : digit low ≡ at % 16
-  pub is : r ≡ numberAt 8 (49 ∷ 48 ∷ 48 ∷ high ∷ middle ∷ low ∷ 48 ∷ 48 ∷ []) 0
+-- ---- four digits at once
 
-pub record HeadSpelled (l : List ℕ) (at : ℕ) : Type 0 where
-  pub count : SpellsByte l 1 16
+-- four digits as a number of four bytes
+pub record FourDigits (r : ℕ) : Type 0 where
+  pub first : r % 256 < 16
+  pub second : r / 256 % 256 < 16
+  pub third : r / 65536 % 256 < 16
+  pub fourth : r / 16777216 < 16
+
+-- four characters that spell them
+pub record SpelledDigits (found digits : ℕ) : Type 0 where
+  pub first : digit (found % 256) ≡ digits % 256
+  pub second : digit (found / 256 % 256) ≡ digits / 256 % 256
+  pub third : digit (found / 65536 % 256) ≡ digits / 65536 % 256
+  pub fourth : digit (found / 16777216) ≡ digits / 16777216
+
+-- the bytes of a number
+record FourBytes (n p q r s : ℕ) : Type 0 where
+  pub first : n % 256 ≡ p
+  pub second : n / 256 % 256 ≡ q
+  pub third : n / 65536 % 256 ≡ r
+  pub fourth : n / 16777216 ≡ s
+
+four-bytes : (n p q r s : ℕ) → n ≡ p + 256 * (q + 256 * (r + 256 * s)) → p < 256 → q < 256 → r < 256 → FourBytes n p q r s
+four-bytes n p q r s e small less least =
+    let one : n / 256 ≡ q + 256 * (r + 256 * s) = rw e (omega arith) in
+    let two : n / 65536 ≡ r + 256 * s = rw e (omega arith) in
+    let three : n / 16777216 ≡ s = rw e (omega arith) in
+    record { first = rw e (omega arith); second = rw one (omega arith); third = rw two (omega arith); fourth = three }
+
+-- the mask keeps the lowest bit of each byte
+mask-byte : (y m : ℕ) → bitAnd y (m * 256 + 1) ≡ bitAnd (y / 256) m * 256 + y % 2
+mask-byte y m =
+    let parts : y ≡ y / 256 * 2 ^ 8 + y % 256 = omega arith in
+    let low : bitAnd (y % 256) 1 ≡ y % 2 = and-mask (y % 256) 1 ∙ omega arith in
+    ap (λ (n : ℕ). bitAnd n (m * 2 ^ 8 + 1)) parts ∙ and-block 8 (y / 256) m (y % 256) 1 (omega arith) (omega arith)
+    ∙ ap (λ (n : ℕ). bitAnd (y / 256) m * 256 + n) low
+
+mask-bytes : (y : ℕ) → bitAnd y 16843009 ≡ ((y / 256 / 256 / 256 % 2 * 256 + y / 256 / 256 % 2) * 256 + y / 256 % 2) * 256 + y % 2
+mask-bytes y =
+    mask-byte y 65793
+    ∙ rw (mask-byte (y / 256) 257, mask-byte (y / 256 / 256) 1) (rw (and-mask (y / 256 / 256 / 256) 1))
+
+-- a digit with 6 added passes 16 where it is above 9
+letter-bit : (d r : ℕ) → d < 16 → (d + 6 + 256 * r) / 16 % 2 ≡ d / 10
+letter-bit d r h =
+    split 10 d (λ k. let q : (d + 6 + 256 * r) / 16 ≡ 16 * r + 1 = omega arith in rw q (omega arith))
+    (λ k. let q : (d + 6 + 256 * r) / 16 ≡ 16 * r = omega arith in rw q (omega arith))
+
+last-bit : (d : ℕ) → d < 16 → (d + 6) / 16 % 2 ≡ d / 10
+last-bit d h = let none : d + 6 + 256 * 0 ≡ d + 6 = omega arith in rw none at (letter-bit d 0 h)
+
+letter-rest : (d r : ℕ) → d < 16 → (d + 6 + 256 * r) / 16 / 256 ≡ r / 16
+letter-rest d r h = omega arith
+
+letters-of : (a b c e : ℕ) → a < 16 → b < 16 → c < 16 → e < 16 → (y : ℕ) → y ≡ (a + 6 + 256 * (b + 6 + 256 * (c + 6 + 256 * (e + 6)))) / 16
+    → bitAnd y 16843009 ≡ ((e / 10 * 256 + c / 10) * 256 + b / 10) * 256 + a / 10
+letters-of a b c e ha hb hc he y same =
+    let one : y / 256 ≡ (b + 6 + 256 * (c + 6 + 256 * (e + 6))) / 16 = rw same (letter-rest a _ ha) in
+    let two : y / 256 / 256 ≡ (c + 6 + 256 * (e + 6)) / 16 = rw one (letter-rest b _ hb) in
+    let three : y / 256 / 256 / 256 ≡ (e + 6) / 16 = rw two (letter-rest c _ hc) in
+    let first : y % 2 ≡ a / 10 = rw same (letter-bit a _ ha) in
+    let second : y / 256 % 2 ≡ b / 10 = rw one (letter-bit b _ hb) in
+    let third : y / 256 / 256 % 2 ≡ c / 10 = rw two (letter-bit c _ hc) in
+    let fourth : y / 256 / 256 / 256 % 2 ≡ e / 10 = rw three (last-bit e he) in
+    mask-bytes y ∙ rw (first, second, third, fourth)
+
+-- such a number with so many for each letter fits 32 bits
+module _ (digits y : ℕ) (h : FourDigits digits) where
+  pub upper-case-fits : Fits w32 (digits + 808464432 + bitAnd y 16843009 * 7)
+  upper-case-fits = record { fits = omega (arith, and-le-r y 16843009, h .first, h .second, h .third, h .fourth) }
+
+  pub lower-case-fits : Fits w32 (digits + 808464432 + bitAnd y 16843009 * 39)
+  lower-case-fits = record { fits = omega (arith, and-le-r y 16843009, h .first, h .second, h .third, h .fourth) }
+
+pub upper-case-letters-fit : (y : ℕ) → Fits w32 (bitAnd y 16843009 * 7)
+upper-case-letters-fit y = record { fits = omega (arith, and-le-r y 16843009) }
+
+pub lower-case-letters-fit : (y : ℕ) → Fits w32 (bitAnd y 16843009 * 39)
+lower-case-letters-fit y = record { fits = omega (arith, and-le-r y 16843009) }
+
+module _ (digits : ℕ) (h : FourDigits digits) where
+  parts : digits ≡ digits % 256 + 256 * (digits / 256 % 256 + 256 * (digits / 65536 % 256 + 256 * (digits / 16777216)))
+  parts = omega arith
+
+  letters-are : bitAnd ((digits + 101058054) / 16) 16843009
+      ≡ ((digits / 16777216 / 10 * 256 + digits / 65536 % 256 / 10) * 256 + digits / 256 % 256 / 10) * 256 + digits % 256 / 10
+  letters-are =
+      let more : digits + 101058054
+      ≡ digits % 256 + 6 + 256 * (digits / 256 % 256 + 6 + 256 * (digits / 65536 % 256 + 6 + 256 * (digits / 16777216 + 6))) = omega (arith, parts) in
+      letters-of _ _ _ _ (h .first) (h .second) (h .third) (h .fourth) _ (ap (λ (n : ℕ). n / 16) more)
+
+  -- by what each byte of the characters is
+  by-bytes : (found p q r s : ℕ) → found ≡ p + 256 * (q + 256 * (r + 256 * s)) → p < 256 → q < 256 → r < 256
+      → digit p ≡ digits % 256 → digit q ≡ digits / 256 % 256 → digit r ≡ digits / 65536 % 256 → digit s ≡ digits / 16777216 → SpelledDigits found digits
+  by-bytes found p q r s e small less least a b c d =
+      let bytes = four-bytes found p q r s e small less least in
+      record { first = rw (bytes .first) a; second = rw (bytes .second) b; third = rw (bytes .third) c; fourth = rw (bytes .fourth) d }
+
+  pub upper-case-spelled : (found : ℕ) → found ≡ digits + 808464432 + bitAnd ((digits + 101058054) / 16) 16843009 * 7 → When true (SpelledDigits found digits)
+  upper-case-spelled found e =
+      record {
+        says = λ q. by-bytes found _ _ _ _ (omega (arith, e, parts, letters-are)) (omega (arith, h .first)) (omega (arith, h .second)) (omega (arith, h .third))
+            (upper-case-spells _ (h .first))
+            (upper-case-spells _ (h .second))
+            (upper-case-spells _ (h .third))
+            (upper-case-spells _ (h .fourth));
+      }
+
+  pub lower-case-spelled : (found : ℕ) (answer : Bool) → answer ≡ eqb found (digits + 808464432 + bitAnd ((digits + 101058054) / 16) 16843009 * 39)
+      → When answer (SpelledDigits found digits)
+  lower-case-spelled found answer t =
+      record {
+        says = λ q.
+            let e = eqb-true found _ (sym t ∙ q) in
+            by-bytes found _ _ _ _ (omega (arith, e, parts, letters-are)) (omega (arith, h .first)) (omega (arith, h .second)) (omega (arith, h .third))
+            (lower-case-spells _ (h .first))
+            (lower-case-spells _ (h .second))
+            (lower-case-spells _ (h .third))
+            (lower-case-spells _ (h .fourth));
+      }
+
+-- ---- a line's address and type, and a byte
+
+-- the address that is due, and type 00
+pub record AddressDue (l : List ℕ) (at : ℕ) : Type 0 where
   pub high : SpellsByte l 3 (at / 256)
   pub low : SpellsByte l 5 (at % 256)
   pub kind : SpellsByte l 7 0
 
 -- two characters that are known
-spells : (l : List ℕ) (i a b byte : ℕ) → getD l i 0 ≡ a → getD l (i + 1) 0 ≡ b → digit a < 16 → digit b < 16
-    → byte ≡ digit a * 16 + digit b → SpellsByte l i byte
+spells : (l : List ℕ) (i high low byte : ℕ) → digit (getD l i 0) ≡ high → digit (getD l (i + 1) 0) ≡ low → high < 16 → low < 16
+    → byte ≡ high * 16 + low → SpellsByte l i byte
 unfolding byteAt
-spells l i a b byte e f h k s = record { high = rw e h; low = rw f k; is = rw (e, f) s }
+spells l i high low byte e f h k s = record { high = rw e h; low = rw f k; is = rw (e, f) s }
 
-head-bytes : (high middle low : ℕ) → digit high < 16 → digit middle < 16 → digit low < 16 → Bytes (49 ∷ 48 ∷ 48 ∷ high ∷ middle ∷ low ∷ 48 ∷ 48 ∷ [])
-head-bytes high middle low h m k =
-    let last : Bytes (48 ∷ 48 ∷ []) = bytes-cons 48 (48 ∷ []) (omega arith) (bytes-cons 48 [] (omega arith) bytes-nil) in
-    let lows : Bytes (low ∷ 48 ∷ 48 ∷ []) = bytes-cons low (48 ∷ 48 ∷ []) (character-small low k) last in
-    let middles : Bytes (middle ∷ low ∷ 48 ∷ 48 ∷ []) = bytes-cons middle (low ∷ 48 ∷ 48 ∷ []) (character-small middle m) lows in
-    let highs : Bytes (high ∷ middle ∷ low ∷ 48 ∷ 48 ∷ []) = bytes-cons high (middle ∷ low ∷ 48 ∷ 48 ∷ []) (character-small high h) middles in
-    let zero : Bytes (48 ∷ high ∷ middle ∷ low ∷ 48 ∷ 48 ∷ []) = bytes-cons 48 (high ∷ middle ∷ low ∷ 48 ∷ 48 ∷ []) (omega arith) highs in
-    bytes-cons 49 (48 ∷ 48 ∷ high ∷ middle ∷ low ∷ 48 ∷ 48 ∷ []) (omega arith)
-    (bytes-cons 48 (48 ∷ high ∷ middle ∷ low ∷ 48 ∷ 48 ∷ []) (omega arith) zero)
+module _ (at : ℕ) (h : at < 4096) where
+  address-bytes : FourBytes (at / 256 * 256 + at / 16 % 16 * 65536 + at % 16 * 16777216) 0 (at / 256) (at / 16 % 16) (at % 16)
+  address-bytes = four-bytes _ 0 (at / 256) (at / 16 % 16) (at % 16) (omega arith) (omega arith) (omega arith) (omega arith)
 
-pub head-same : (l : List ℕ) (at head other : ℕ) → at < 4096 → EightAt l 1 head → HeadNumber at other → head ≡ other → When true (HeadSpelled l at)
-unfolding digit
-head-same l at head other small h n s =
-    let characters : List ℕ = 49 ∷ 48 ∷ 48 ∷ n .high ∷ n .middle ∷ n .low ∷ 48 ∷ 48 ∷ [] in
-    let bytes : Bytes characters = head-bytes (n .high) (n .middle) (n .low) (omega (arith, n .highs)) (omega (arith, n .middles)) (omega (arith, n .lows)) in
-    let same = same-byte 8 l characters 1 0 (h .bytes) bytes (sym (h .is) ∙ s ∙ n .is) in
-    record {
-      says = λ q. record {
-        count = spells l 1 49 48 16 (same 0 (omega arith)) (same 1 (omega arith)) (omega arith) (omega arith) refl;
-        high = spells l 3 48 (n .high) (at / 256) (same 2 (omega arith)) (same 3 (omega arith)) (omega arith) (omega (arith, n .highs))
-            (omega (arith, n .highs));
-        low = spells l 5 (n .middle) (n .low) (at % 256) (same 4 (omega arith)) (same 5 (omega arith)) (omega (arith, n .middles)) (omega (arith, n .lows))
-            (omega (arith, n .middles, n .lows));
-        kind = spells l 7 48 48 0 (same 6 (omega arith)) (same 7 (omega arith)) (omega arith) (omega arith) refl;
-      };
-    }
+  pub address-digits : FourDigits (at / 256 * 256 + at / 16 % 16 * 65536 + at % 16 * 16777216)
+  address-digits =
+      let b = address-bytes in
+      record { first = rw (b .first) (omega arith); second = rw (b .second) (omega arith); third = rw (b .third) (omega arith); fourth = rw (b .fourth) (omega arith) }
 
--- ---- two characters
+  pub address-is-due : (l : List ℕ) → getD l 7 0 ≡ 48 → getD l 8 0 ≡ 48 → Bytes l → (found : ℕ) → found ≡ numberAt 4 l 3 → (answer : Bool)
+      → When answer (SpelledDigits found (at / 256 * 256 + at / 16 % 16 * 65536 + at % 16 * 16777216)) → When answer (AddressDue l at)
+  unfolding digit
+  address-is-due l e f bytes found is answer w =
+      let b = address-bytes in
+      let sum : found ≡ getD l 3 0 + 256 * (getD l 4 0 + 256 * (getD l 5 0 + 256 * getD l 6 0)) =
+      is ∙ rw (← by-low-byte 3 l 3, ← by-low-byte 2 l 4, ← by-low-byte 1 l 5, byte-at l 6) in
+      let c = four-bytes found (getD l 3 0) (getD l 4 0) (getD l 5 0) (getD l 6 0) sum (bytes 3) (bytes 4) (bytes 5) in
+      record {
+        says = λ q.
+            let s = w .says q in
+            record {
+              high = spells l 3 0 (at / 256) (at / 256) (rw (c .first, b .first) at (s .first)) (rw (c .second, b .second) at (s .second))
+                  (omega arith) (omega arith) (omega arith);
+              low = spells l 5 (at / 16 % 16) (at % 16) (at % 256) (rw (c .third, b .third) at (s .third)) (rw (c .fourth, b .fourth) at (s .fourth))
+                  (omega arith) (omega arith) (omega arith);
+              kind = spells l 7 0 0 0 (rw e) (rw f) (omega arith) (omega arith) refl;
+            };
+      }
 
-pub record TwoCharacters (first second r : ℕ) : Type 0 where
-  pub is : r ≡ first + 256 * second
-  pub small : first < 256
-  pub second-small : second < 256
+module _ (byte : ℕ) (h : byte < 256) where
+  byte-bytes : FourBytes (byte / 16 + byte % 16 * 256) (byte / 16) (byte % 16) 0 0
+  byte-bytes = four-bytes _ (byte / 16) (byte % 16) 0 0 (omega arith) (omega arith) (omega arith) (omega arith)
 
--- those that spell a byte
-pub record ByteNumber (byte r : ℕ) : Type 0 where
-  pub high : ℕ
-  pub low : ℕ
-  pub highs : digit high ≡ byte / 16
-  pub lows : digit low ≡ byte % 16
-  pub is : TwoCharacters high low r
+  pub byte-digits : FourDigits (byte / 16 + byte % 16 * 256)
+  byte-digits =
+      let b = byte-bytes in
+      record { first = rw (b .first) (omega arith); second = rw (b .second) (omega arith); third = rw (b .third) (omega arith); fourth = rw (b .fourth) (omega arith) }
 
-pub byte-same : (l : List ℕ) (i byte found other : ℕ) → byte < 256 → TwoCharacters (getD l i 0) (getD l (i + 1) 0) found → ByteNumber byte other → found ≡ other
-    → When true (SpellsByte l i byte)
-byte-same l i byte found other small t n s =
-    let first : getD l i 0 ≡ n .high = omega (arith, t .is, t .small, t .second-small, n .is .is, n .is .small, n .is .second-small) in
-    let second : getD l (i + 1) 0 ≡ n .low = omega (arith, t .is, t .small, t .second-small, n .is .is, n .is .small, n .is .second-small) in
-    record { says = λ q. spells l i (n .high) (n .low) byte first second (omega (arith, n .highs)) (omega (arith, n .lows)) (omega (arith, n .highs, n .lows)) }
+  pub byte-is-due : (l : List ℕ) (from found : ℕ) → Bytes l → found ≡ numberAt 2 l from
+      → (answer : Bool) → When answer (SpelledDigits (found + 808452096) (byte / 16 + byte % 16 * 256)) → When answer (SpellsByte l from byte)
+  byte-is-due l from found bytes is answer w =
+      let b = byte-bytes in
+      let pair : found ≡ getD l from 0 + 256 * getD l (from + 1) 0 = is ∙ rw (← by-low-byte 1 l from, byte-at l (from + 1)) in
+      let c = four-bytes (found + 808452096) (getD l from 0) (getD l (from + 1) 0) 48 48 (omega (arith, pair)) (bytes from) (bytes (from + 1)) (omega arith) in
+      record {
+        says = λ q.
+            let s = w .says q in
+            spells l from (byte / 16) (byte % 16) byte (rw (c .first, b .first) at (s .first)) (rw (c .second, b .second) at (s .second))
+            (omega arith) (omega arith) (omega arith);
+      }
 
 -- ---- the end record
 

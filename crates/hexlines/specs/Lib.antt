@@ -1,4 +1,4 @@
 pub mod Taken
 pub mod AnyLineLaws
 pub mod LettersLaws
-pub mod BlockLaws
+pub mod DueLaws

@@ -1,23 +1,49 @@
-// Digits as characters in upper or lower case, and characters compared with a line's, several at once, as one number.
+// A line's characters compared with those that are due, several at once, as one number.
 ghost use mathlib.Core.Path.{_≡_};
 ghost use Prim.Native.Nat.{_+_, _≤_, _<_};
 ghost use lib.ListN.{length};
-ghost use Rattle.hextext.specs.Record.{digit as digitOf};
-ghost use Rattle.hexline.specs.DigitsLaws.{SpellsByte};
-ghost use Rattle.hexlines.specs.LettersLaws.{When, endRecord, EightAt, HeadNumber, TwoCharacters, ByteNumber, HeadSpelled};
+ghost use Rattle.hexdigits.specs.DigitsLaws.{SpellsByte};
+ghost use Rattle.hexlines.specs.LettersLaws.{When, endRecord, EightAt, FourDigits, SpelledDigits, AddressDue};
 use numbers::fields::number_of_8;
+use numbers::fields::number2;
+use numbers::fields::number4;
 
-// The character of a digit. No branch goes by the digit: a checksum's digits can't be predicted.
-fn character(digit: usize, lower: bool) -> u8
-    requires { ⌜ digit < 16 ⌝ }
-    ensures { λ r. ⌜ digitOf r ≡ digit ⌝ }
+// Whether four characters are those of four digits, all in upper or all in lower case. Both are numbers of four bytes; with 6 added,
+// the byte of a digit above 9 passes 16.
+fn spelled(found: u32, digits: u32) -> bool
+    requires { ⌜ FourDigits digits ⌝ }
+    ensures { λ r. ⌜ When r (SpelledDigits found digits) ⌝ }
 {
-    let value = digit as u8;
-    let letter = value / 10;
-    if lower {
-        return value + 48 + letter * 39;
+    let letters = ((digits + 0x0606_0606) / 16) & 0x0101_0101;
+    let decimal = digits + 0x3030_3030;
+    if found == decimal + letters * 7 {
+        return true;
     }
-    value + 48 + letter * 7
+    found == decimal + letters * 39
+}
+
+// Whether a line's address is this one, and its type that of a data record.
+pub fn address_is(line: &[u8], at: usize) -> bool
+    requires { ⌜ (9 ≤ length (now line)) × (at < 4096) ⌝ }
+    ensures { λ r. ⌜ When r (AddressDue (now (line .entry)) at) ⌝ }
+{
+    if line[7] != b'0' {
+        return false;
+    }
+    if line[8] != b'0' {
+        return false;
+    }
+    let digits = at / 256 * 256 + at / 16 % 16 * 65536 + at % 16 * 16777216;
+    spelled(number4(line, 3), digits as u32)
+}
+
+// Whether the two characters at a place spell this byte: with two zeros after them they are four.
+pub fn byte_is(line: &[u8], from: usize, byte: usize) -> bool
+    requires { ⌜ byte < 256 ⌝ }
+    ensures { λ r. ⌜ When r (SpellsByte (now (line .entry)) from byte) ⌝ }
+{
+    let digits = byte / 16 + byte % 16 * 256;
+    spelled(number2(line, from) as u32 + 0x3030_0000, digits as u32)
 }
 
 // Eight characters of a line from a place on.
@@ -35,61 +61,6 @@ fn eight_at(line: &[u8], from: usize) -> u64
         line[from + 6],
         line[from + 7],
     ])
-}
-
-// Those after the colon of a data record of 16 bytes, at an address below 4,096.
-fn head_of(at: usize, lower: bool) -> u64
-    requires { ⌜ at < 4096 ⌝ }
-    ensures { λ r. ⌜ HeadNumber at r ⌝ }
-{
-    let high = character(at / 256, lower);
-    let middle = character(at / 16 % 16, lower);
-    let low = character(at % 16, lower);
-    number_of_8([b'1', b'0', b'0', high, middle, low, b'0', b'0'])
-}
-
-// Whether a line's head is that one, in either case.
-pub fn head_is(line: &[u8], at: usize) -> bool
-    requires { ⌜ (9 ≤ length (now line)) × (at < 4096) ⌝ }
-    ensures { λ r. ⌜ When r (HeadSpelled (now (line .entry)) at) ⌝ }
-{
-    let head = eight_at(line, 1);
-    if head == head_of(at, false) {
-        return true;
-    }
-    if head == head_of(at, true) {
-        return true;
-    }
-    false
-}
-
-fn two(first: u8, second: u8) -> u16
-    ensures { λ r. ⌜ TwoCharacters first second r ⌝ }
-{
-    first as u16 + 256 * (second as u16)
-}
-
-// The two characters that spell a byte.
-fn byte_of(byte: usize, lower: bool) -> u16
-    requires { ⌜ byte < 256 ⌝ }
-    ensures { λ r. ⌜ ByteNumber byte r ⌝ }
-{
-    two(character(byte / 16, lower), character(byte % 16, lower))
-}
-
-// Whether the last two characters of a line of 43 spell this byte, both in the same case.
-pub fn check_is(line: &[u8], byte: usize) -> bool
-    requires { ⌜ (43 ≤ length (now line)) × (byte < 256) ⌝ }
-    ensures { λ r. ⌜ When r (SpellsByte (now (line .entry)) 41 byte) ⌝ }
-{
-    let check = two(line[41], line[42]);
-    if check == byte_of(byte, false) {
-        return true;
-    }
-    if check == byte_of(byte, true) {
-        return true;
-    }
-    false
 }
 
 // Whether a line is the end record as most writers make it, `:00000001FF` and LF, which every text has once.

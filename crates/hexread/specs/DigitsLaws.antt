@@ -13,7 +13,7 @@ use Rattle.laws.specs.Cases.{split}
 use Rattle.laws.specs.TableTests.{every, entry}
 use Rattle.hextext.specs.Record.{digit, allDigits}
 use Rattle.hextext.specs.RecordLaws.{byteAt}
-use Rattle.hexline.specs.DigitsLaws.{SpellsByte, spells-digits, spells-none}
+use Rattle.hexdigits.specs.DigitsLaws.{SpellsByte, spells-digits, spells-none}
 
 -- ---- a character
 

@@ -1,5 +1,4 @@
 pub mod DigitsLaws
-pub mod BlockLaws
 pub mod RecordLaws
 pub mod GatheredLaws
 pub mod LineLaws

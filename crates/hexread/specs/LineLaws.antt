@@ -2,11 +2,12 @@
 use mathlib.Core.Path.{_≡_, sym, ap, _∙_}
 use mathlib.Core.Bool.{true, false}
 use mathlib.Core.List.{List, [], _++_}
-use Prim.Native.Nat.{ℕ, _+_, _*_, _≤_, _<_}
+use Prim.Native.Nat.{ℕ, _+_, _*_, _≤_, _<_, min}
 use native.Mathlib.Omega.{arith}
 use native.Mathlib.Nat.{le-of-eq}
 use lib.ListN.{length, take, drop, getD, drop-of-length-le, length-drop}
 use lib.Seq.{take-all, drop-cons, getD-take, getD-drop, length-take-le, paste, take-paste}
+use Rattle.limits.specs.Limits.{largestImage}
 use Rattle.laws.specs.Cases.{decide, never}
 use Rattle.refusals.specs.Refusals.{result, refused, refusal}
 use Rattle.hextext.specs.declared.Record.{Record}
@@ -102,7 +103,7 @@ line-counted u n next c p h f z =
     }
 
 module _ (u d d′ : List ℕ) (room at n next : ℕ) (r : Record) (c : getD u 0 0 ≡ 58) (p : Pair u 1 n) (h : n < 256)
-    (f : next ≡ nextLine u (11 + n * 2)) (z : next ≡ 0 → ⊥) (within : at ≤ room) (roomy : room ≤ length d)
+    (f : next ≡ nextLine u (11 + n * 2)) (z : next ≡ 0 → ⊥) (within : at ≤ room) (roomy : room ≡ min largestImage (length d))
     (t : RecordTaken r (countedLine u n) d d′ room at) where
   ends : Ends u (11 + n * 2) next
   ends = ends-found u (11 + n * 2) next f z

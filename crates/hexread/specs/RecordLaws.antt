@@ -2,12 +2,13 @@
 use mathlib.Core.Path.{_≡_, refl, sym, _∙_}
 use mathlib.Core.Bool.{Bool, true, false, cond, _&&_, and-true}
 use mathlib.Core.List.{List}
-use Prim.Native.Nat.{ℕ, _+_, _-_, _*_, _%_, _≤_, _<_}
+use Prim.Native.Nat.{ℕ, _+_, _-_, _*_, _%_, _≤_, _<_, min}
 use native.Mathlib.Omega.{arith}
 use borrow.Author.Tests.{eq-eqb, ne-eqb, eqb-true, eqb-false, lt-ltb, le-ltb}
 use lib.Dec.{ltb, eqb}
 use lib.ListN.{length, take, drop, getD}
 use lib.Seq.{take-take, paste, paste-zero}
+use Rattle.limits.specs.Limits.{largestImage}
 use Rattle.laws.specs.Cases.{split, decide}
 use Rattle.laws.specs.Sums.{total}
 use Rattle.hextext.specs.declared.Record.{Record}
@@ -15,7 +16,11 @@ use Rattle.hextext.specs.declared.Record.the-variants.{Data, End, Fault}
 use Rattle.hextext.specs.Record.{allDigits, bytesOf, recordBytes, countOf, dataOf, formed, summed, lineOf, typed, placed, judge}
 use Rattle.hextext.specs.RecordLaws.{byteAt, allDigits-end, bytes-total-more, bytes-total-end, formed-at, judge-unformed, recordBytes-head}
 use Rattle.hexline.specs.TypedLaws.{end-empty, good-data-record}
-use Rattle.hexline.specs.WrittenPairsLaws.{PairsWritten}
+use Rattle.hexdigits.specs.Digits.{PutsBytes}
+use Rattle.hexdigits.specs.WrittenPairsLaws.{PairsWritten}
+use Rattle.hexdigits.specs.BytesLaws.{puts-pairs}
+use Rattle.hexline.specs.Taken.{TakesRecord}
+use Rattle.hexline.specs.TakenLaws.{data-from-nine}
 use Rattle.hexread.specs.DigitsLaws.{noDigit, Pair, pair-below, pair-byte, pair-digits, pair-none, none-after-pair}
 
 -- ---- a record judged by its parts
@@ -83,10 +88,6 @@ taken-fault k l d d′ room at j =
       wrote = λ m q. let z : _≡_ {A = ℕ} 0 1 = cc in absurd (omega arith);
       same = λ q. let z : _≡_ {A = ℕ} 0 1 = cc in absurd (omega arith);
     }
-
-data-from-nine : (l : List ℕ) (n : ℕ) → length l ≡ 11 + n * 2 → countOf (recordBytes l) ≡ n → dataOf (recordBytes l) ≡ take n (bytesOf (drop 9 l))
-unfolding dataOf
-data-from-nine l n h e = rw (e, recordBytes-head l (omega arith))
 
 last-byte : (l : List ℕ) (i check : ℕ) → Pair l i check → check < 256 → length l ≡ i + 2 → total (bytesOf (drop i l)) ≡ check
 last-byte l i check p h e = omega (arith, bytes-total-more l i (omega arith), bytes-total-end l (i + 2) (omega arith), pair-byte l i check p h)
@@ -195,7 +196,7 @@ module _ (l : List ℕ) (n : ℕ) (v : Counted l n) where
                     rw (w .wrote hs, none) (sym (paste-zero d at (bytesOf (drop 9 l))));
               }
 
-      pub taken-by-parts : (check : ℕ) → Pair l (9 + n * 2) check → (r : Record) → r ≡ judgedParts room at n high low kind s check
+      taken-by-parts : (check : ℕ) → Pair l (9 + n * 2) check → (r : Record) → r ≡ judgedParts room at n high low kind s check
           → at ≤ room → room ≤ length d → RecordTaken r l d d′ room at
       taken-by-parts check pc r e within roomy =
           split 256 s (λ h. rw (e, ← parts-bad-data room at n high low kind s check h) (taken-bad-data h))
@@ -209,12 +210,22 @@ module _ (l : List ℕ) (n : ℕ) (v : Counted l n) where
           let z = eqb-false (sum room at n high low kind s check % 256) 0 q in
           rw (e, ← parts-bad-sum room at n high low kind s check hs below z) (taken-bad-sum hs check pc below z))))
 
+-- with its data put
+pub taken-by-bytes : (l : List ℕ) (n : ℕ) → Counted l n → (d d′ : List ℕ) (room at : ℕ) (high low kind : ℕ) → Pair l 3 high → Pair l 5 low → Pair l 7 kind
+    → (s : ℕ) → PutsBytes (take (9 + n * 2 - 9) (drop 9 l)) at d s d′ → (check : ℕ) → Pair l (9 + n * 2) check
+    → (r : Record) → r ≡ judgedParts room at n high low kind s check → at ≤ room → n ≤ room - at → room ≡ min largestImage (length d)
+    → RecordTaken r l d d′ room at
+taken-by-bytes l n v d d′ room at high low kind ph pl pk s p check pc r e within fits m =
+    let all : 9 + n * 2 - 9 ≡ n * 2 = omega arith in
+    let written = puts-pairs l 9 n d d′ at s (omega (arith, v .long)) (omega arith) (rw all at p) in
+    taken-by-parts l n v d d′ room at high low kind ph pl pk s written check pc r e within (omega arith)
+
 -- ---- a line whose data have no room
 
-pub taken-no-room : (l d : List ℕ) (n room at : ℕ) (r : Record) → Counted l n → room - at < n → r ≡ judge room at l → RecordTaken r l d d room at
-taken-no-room l d n room at r v h e =
+pub taken-by-line : (l d d′ : List ℕ) (room at : ℕ) (r : Record) → room ≡ min largestImage (length d) → TakesRecord l at d r d′ → RecordTaken r l d d′ room at
+taken-by-line l d d′ room at r m t =
     record {
-      judged = e;
-      wrote = λ m t. let u = good-data-record room at l m (sym e ∙ t) in absurd (omega (arith, v .long, u .long, u .fits));
-      same = λ t. refl;
+      judged = t .answers ∙ rw m;
+      wrote = λ n e. let j = sym (t .answers) ∙ e in rw j at (t .holds);
+      same = λ e. let j = sym (t .answers) ∙ e in rw j at (t .holds);
     }

@@ -1,6 +1,8 @@
 // The first line of a text, found by its record's count.
-ghost use Prim.Native.Nat.{_≤_};
+ghost use mathlib.Core.Path.{_≡_};
+ghost use Prim.Native.Nat.{_≤_, min};
 ghost use lib.ListN.{length};
+ghost use Rattle.limits.specs.Limits.{largestImage};
 ghost use Rattle.hexread.specs.DigitsLaws.{DigitValues};
 ghost use Rattle.hexread.specs.LineLaws.{FirstLineRead};
 use crate::digits::pair;
@@ -24,7 +26,7 @@ pub fn first_line(
     at: usize,
     room: usize,
 ) -> Step
-    requires { ⌜ DigitValues (now values) × (at ≤ room) × (room ≤ length (now image)) ⌝ }
+    requires { ⌜ DigitValues (now values) × (at ≤ room) × (room ≡ min largestImage (length (now image))) ⌝ }
     ensures { λ r. ⌜ FirstLineRead r (now (text .entry)) (now (image .entry)) (now (image .exit)) room at ⌝ }
 {
     if text.len() < 12 {

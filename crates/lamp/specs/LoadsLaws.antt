@@ -28,7 +28,8 @@ use Rattle.hextext.specs.declared.Record.the-variants.{Data, End, Fault}
 use Rattle.hextext.specs.Lines.{lineInside, lineRecord, lineData}
 use Rattle.hexline.specs.TypedLaws.{good-data-record, data-length}
 use Rattle.hextext.specs.Text.{readText}
-use Rattle.hexlines.specs.Taken.{afterTaken, TakesLine}
+use Rattle.hexline.specs.Taken.{afterTaken}
+use Rattle.hexlines.specs.Taken.{TakesLine}
 use Rattle.image.specs.Layout.{layoutVerdict}
 use Rattle.image.specs.ContentsLaws.{contents-passed}
 use Rattle.panel.specs.Verdict.{levelVerdict, verdictOf}

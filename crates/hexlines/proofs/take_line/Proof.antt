@@ -1,5 +1,5 @@
 use borrow.Author.Needs.{needs}
-use Rattle.hexlines.specs.BlockLaws.{length-is, takes-block, takes-other, takes-end-record}
+use Rattle.hexlines.specs.DueLaws.{takes-end-record, takes-due, takes-other}
 use Rattle.hexlines.proofs.take_line.Statement.{statement}
 use Rattle.hexlines.proofs.take_line.Tie as tie
 
@@ -8,9 +8,6 @@ is-end-record-requires c κs = search needs
 
 returns : tie.Need-returns
 returns c = search (needs, takes-end-record)
-
-has-block-length-requires : tie.Need-has-block-length-requires
-has-block-length-requires c κs = search needs
 
 take-any-requires : tie.Need-take-any-requires
 take-any-requires c κs = search needs
@@ -21,14 +18,14 @@ same-length c = search needs
 returns-2 : tie.Need-returns-2
 returns-2 c = search needs
 
-take-block-requires : tie.Need-take-block-requires
-take-block-requires c κs = search (needs, length-is)
+take-due-requires : tie.Need-take-due-requires
+take-due-requires c κs = search needs
 
 same-length-2 : tie.Need-same-length-2
 same-length-2 c = search needs
 
 returns-3 : tie.Need-returns-3
-returns-3 c = search (needs, takes-block)
+returns-3 c = search (needs, takes-due)
 
 take-any-requires-2 : tie.Need-take-any-requires-2
 take-any-requires-2 c κs = search needs
@@ -45,11 +42,10 @@ take-line-spec =
     (tie.spec
     is-end-record-requires
     returns
-    has-block-length-requires
     take-any-requires
     same-length
     returns-2
-    take-block-requires
+    take-due-requires
     same-length-2
     returns-3
     take-any-requires-2
