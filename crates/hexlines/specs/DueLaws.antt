@@ -327,7 +327,8 @@ module _ (line : List ℕ) (n : ℕ) (c : LineCounted line n) (some : 12 < lengt
             let lf = eq-eqb (getD line (length line - 1) 0) 10 last-is-lf in
             by-inside _ (λ same. record { answers = rw (lf, same) (t .answers); holds = rw (lf, same) (t .holds) })
             (λ size cr.
-            let there = allDigits-at (drop 1 (take end line)) (end - 2) (formed-digits (take end line) (good .good)) (omega (arith, length-drop 1 (take end line), long)) in
+            let digits = formed-digits (take end line) (good .good) in
+            let there = allDigits-at (drop 1 (take end line)) (end - 2) digits (omega (arith, length-drop 1 (take end line), long)) in
             let place : 1 + (end - 2) ≡ end - 1 = omega arith in
             let digit-last : digit (getD (take end line) (end - 1) 0) < 16 = rw (getD-drop 1 (take end line) (end - 2) 0, place) at there in
             let none = digit-low (getD (take end line) (end - 1) 0) (omega arith) in

@@ -1,19 +1,19 @@
 -- Characters that spell digits, several at once as one number.
 use mathlib.Core.Path.{_≡_, refl, sym, ap, _∙_}
-use mathlib.Core.Bool.{Bool, true, false, not}
+use mathlib.Core.Bool.{Bool, true, false, not, _&&_}
 use mathlib.Core.List.{List, [], _∷_}
 use Prim.Native.Nat.{ℕ, zero, suc, _+_, _-_, _*_, _/_, _%_, _^_, _≤_, _<_}
 use native.Mathlib.Omega.{arith}
 use lib.Bits.{bitAnd, and-block, and-mask, and-le-r}
-use borrow.Author.Tests.{eqb-true}
-use lib.Dec.{eqb}
+use borrow.Author.Tests.{ltb-true, eqb-true}
+use lib.Dec.{ltb, eqb}
 use lib.ListN.{length, getD}
 use lib.Seq.{ext-getD}
 use mir.Syntax.{w32}
 use mir.Val.{Fits}
 use Rattle.laws.specs.Bytes.{Bytes}
 use Rattle.laws.specs.BytesLaws.{bytes-nil, bytes-cons}
-use Rattle.laws.specs.Cases.{split, never}
+use Rattle.laws.specs.Cases.{split, never, both-left, both-right}
 use Rattle.numbers.specs.Fields.{littleEndian, numberAt}
 use Rattle.numbers.specs.FieldsLaws.{number-of-halves, byte-at}
 use Rattle.hextext.specs.Record.{digit}
@@ -223,13 +223,23 @@ module _ (at : ℕ) (h : at < 4096) where
   pub address-digits : FourDigits (at / 256 * 256 + at / 16 % 16 * 65536 + at % 16 * 16777216)
   address-digits =
       let b = address-bytes in
-      record { first = rw (b .first) (omega arith); second = rw (b .second) (omega arith); third = rw (b .third) (omega arith); fourth = rw (b .fourth) (omega arith) }
+      record {
+        first = rw (b .first) (omega arith);
+        second = rw (b .second) (omega arith);
+        third = rw (b .third) (omega arith);
+        fourth = rw (b .fourth) (omega arith);
+      }
 
-  pub address-is-due : (l : List ℕ) → getD l 7 0 ≡ 48 → getD l 8 0 ≡ 48 → Bytes l → (found : ℕ) → found ≡ numberAt 4 l 3 → (answer : Bool)
+  pub address-is-due : (l : List ℕ) → Bytes l → (kind : ℕ) → kind ≡ numberAt 2 l 7 → kind ≡ 12336 → (found : ℕ) → found ≡ numberAt 4 l 3 → (answer : Bool)
       → When answer (SpelledDigits found (at / 256 * 256 + at / 16 % 16 * 65536 + at % 16 * 16777216)) → When answer (AddressDue l at)
   unfolding digit
-  address-is-due l e f bytes found is answer w =
+  address-is-due l bytes kind e f found is answer w =
       let b = address-bytes in
+      let c7 = bytes 7 in
+      let c8 = bytes 8 in
+      let two : getD l 7 0 + 256 * getD l 8 0 ≡ 12336 = sym (rw (← by-low-byte 1 l 7, byte-at l 8)) ∙ sym e ∙ f in
+      let seventh : getD l 7 0 ≡ 48 = omega arith in
+      let eighth : getD l 8 0 ≡ 48 = omega arith in
       let sum : found ≡ getD l 3 0 + 256 * (getD l 4 0 + 256 * (getD l 5 0 + 256 * getD l 6 0)) =
       is ∙ rw (← by-low-byte 3 l 3, ← by-low-byte 2 l 4, ← by-low-byte 1 l 5, byte-at l 6) in
       let c = four-bytes found (getD l 3 0) (getD l 4 0) (getD l 5 0) (getD l 6 0) sum (bytes 3) (bytes 4) (bytes 5) in
@@ -241,7 +251,7 @@ module _ (at : ℕ) (h : at < 4096) where
                   (omega arith) (omega arith) (omega arith);
               low = spells l 5 (at / 16 % 16) (at % 16) (at % 256) (rw (c .third, b .third) at (s .third)) (rw (c .fourth, b .fourth) at (s .fourth))
                   (omega arith) (omega arith) (omega arith);
-              kind = spells l 7 0 0 0 (rw e) (rw f) (omega arith) (omega arith) refl;
+              kind = spells l 7 0 0 0 (rw seventh) (rw eighth) (omega arith) (omega arith) refl;
             };
       }
 
@@ -252,7 +262,12 @@ module _ (byte : ℕ) (h : byte < 256) where
   pub byte-digits : FourDigits (byte / 16 + byte % 16 * 256)
   byte-digits =
       let b = byte-bytes in
-      record { first = rw (b .first) (omega arith); second = rw (b .second) (omega arith); third = rw (b .third) (omega arith); fourth = rw (b .fourth) (omega arith) }
+      record {
+        first = rw (b .first) (omega arith);
+        second = rw (b .second) (omega arith);
+        third = rw (b .third) (omega arith);
+        fourth = rw (b .fourth) (omega arith);
+      }
 
   pub byte-is-due : (l : List ℕ) (from found : ℕ) → Bytes l → found ≡ numberAt 2 l from
       → (answer : Bool) → When answer (SpelledDigits (found + 808452096) (byte / 16 + byte % 16 * 256)) → When answer (SpellsByte l from byte)
@@ -272,20 +287,20 @@ module _ (byte : ℕ) (h : byte < 256) where
 abbrev pub endRecord : List ℕ
 endRecord = 58 ∷ 48 ∷ 48 ∷ 48 ∷ 48 ∷ 48 ∷ 48 ∷ 48 ∷ 49 ∷ 70 ∷ 70 ∷ 10 ∷ []
 
+-- whether each is a byte
+small : List ℕ → Bool
+small [] = true
+small (b ∷ l) = ltb b 256 && small l
+
+small-bytes : (l : List ℕ) → small l ≡ true → Bytes l
+unfolding small
+small-bytes [] e = bytes-nil
+small-bytes (b ∷ l) e =
+    bytes-cons b l (ltb-true b 256 (both-left (ltb b 256) (small l) e)) (small-bytes l (both-right (ltb b 256) (small l) e))
+
 end-bytes : Bytes endRecord
-end-bytes =
-    let from11 : Bytes (10 ∷ []) = bytes-cons 10 ([]) (omega arith) bytes-nil in
-    let from10 : Bytes (70 ∷ 10 ∷ []) = bytes-cons 70 (10 ∷ []) (omega arith) from11 in
-    let from9 : Bytes (70 ∷ 70 ∷ 10 ∷ []) = bytes-cons 70 (70 ∷ 10 ∷ []) (omega arith) from10 in
-    let from8 : Bytes (49 ∷ 70 ∷ 70 ∷ 10 ∷ []) = bytes-cons 49 (70 ∷ 70 ∷ 10 ∷ []) (omega arith) from9 in
-    let from7 : Bytes (48 ∷ 49 ∷ 70 ∷ 70 ∷ 10 ∷ []) = bytes-cons 48 (49 ∷ 70 ∷ 70 ∷ 10 ∷ []) (omega arith) from8 in
-    let from6 : Bytes (48 ∷ 48 ∷ 49 ∷ 70 ∷ 70 ∷ 10 ∷ []) = bytes-cons 48 (48 ∷ 49 ∷ 70 ∷ 70 ∷ 10 ∷ []) (omega arith) from7 in
-    let from5 : Bytes (48 ∷ 48 ∷ 48 ∷ 49 ∷ 70 ∷ 70 ∷ 10 ∷ []) = bytes-cons 48 (48 ∷ 48 ∷ 49 ∷ 70 ∷ 70 ∷ 10 ∷ []) (omega arith) from6 in
-    let from4 : Bytes (48 ∷ 48 ∷ 48 ∷ 48 ∷ 49 ∷ 70 ∷ 70 ∷ 10 ∷ []) = bytes-cons 48 (48 ∷ 48 ∷ 48 ∷ 49 ∷ 70 ∷ 70 ∷ 10 ∷ []) (omega arith) from5 in
-    let from3 : Bytes (48 ∷ 48 ∷ 48 ∷ 48 ∷ 48 ∷ 49 ∷ 70 ∷ 70 ∷ 10 ∷ []) = bytes-cons 48 (48 ∷ 48 ∷ 48 ∷ 48 ∷ 49 ∷ 70 ∷ 70 ∷ 10 ∷ []) (omega arith) from4 in
-    let from2 : Bytes (48 ∷ 48 ∷ 48 ∷ 48 ∷ 48 ∷ 48 ∷ 49 ∷ 70 ∷ 70 ∷ 10 ∷ []) = bytes-cons 48 (48 ∷ 48 ∷ 48 ∷ 48 ∷ 48 ∷ 49 ∷ 70 ∷ 70 ∷ 10 ∷ []) (omega arith) from3 in
-    let from1 : Bytes (48 ∷ 48 ∷ 48 ∷ 48 ∷ 48 ∷ 48 ∷ 48 ∷ 49 ∷ 70 ∷ 70 ∷ 10 ∷ []) = bytes-cons 48 (48 ∷ 48 ∷ 48 ∷ 48 ∷ 48 ∷ 48 ∷ 49 ∷ 70 ∷ 70 ∷ 10 ∷ []) (omega arith) from2 in
-    bytes-cons 58 (48 ∷ 48 ∷ 48 ∷ 48 ∷ 48 ∷ 48 ∷ 48 ∷ 49 ∷ 70 ∷ 70 ∷ 10 ∷ []) (omega arith) from1
+unfolding small
+end-bytes = small-bytes endRecord refl
 
 -- a line of as many characters, whose first eight and last eight are the end record's
 module _ (l : List ℕ) (long : length l ≡ 12) (start rest first last : ℕ) (a : EightAt l 0 start) (b : EightAt l 4 rest)

@@ -8,6 +8,9 @@ use numbers::fields::number_of_8;
 use numbers::fields::number2;
 use numbers::fields::number4;
 
+// The two characters of a data record's type, as a number.
+const TYPE_00: u16 = 0x3030;
+
 // Whether four characters are those of four digits, all in upper or all in lower case. Both are numbers of four bytes; with 6 added,
 // the byte of a digit above 9 passes 16.
 fn spelled(found: u32, digits: u32) -> bool
@@ -24,13 +27,10 @@ fn spelled(found: u32, digits: u32) -> bool
 
 // Whether a line's address is this one, and its type that of a data record.
 pub fn address_is(line: &[u8], at: usize) -> bool
-    requires { ⌜ (9 ≤ length (now line)) × (at < 4096) ⌝ }
+    requires { ⌜ at < 4096 ⌝ }
     ensures { λ r. ⌜ When r (AddressDue (now (line .entry)) at) ⌝ }
 {
-    if line[7] != b'0' {
-        return false;
-    }
-    if line[8] != b'0' {
+    if number2(line, 7) != TYPE_00 {
         return false;
     }
     let digits = at / 256 * 256 + at / 16 % 16 * 65536 + at % 16 * 16777216;

@@ -3,17 +3,11 @@ use Rattle.hexlines.specs.LettersLaws.{when-not, address-digits, address
 use Rattle.hexlines.proofs.letters.address_is.Statement.{statement}
 use Rattle.hexlines.proofs.letters.address_is.Tie as tie
 
-shared-slice-read-if1 : tie.Need-shared-slice-read-if1
-shared-slice-read-if1 c = search needs
+number2-requires : tie.Need-number2-requires
+number2-requires c κs = search needs
 
 returns : tie.Need-returns
 returns c = search (needs, when-not)
-
-shared-slice-read-if2 : tie.Need-shared-slice-read-if2
-shared-slice-read-if2 c = search needs
-
-returns-2 : tie.Need-returns-2
-returns-2 c = search (needs, when-not)
 
 mul-digits : tie.Need-mul-digits
 mul-digits c = search needs
@@ -39,20 +33,19 @@ cast-spelled c = search needs
 spelled-requires : tie.Need-spelled-requires
 spelled-requires c κs = search (needs, address-digits)
 
-returns-3 : tie.Need-returns-3
-returns-3 c =
+returns-2 : tie.Need-returns-2
+returns-2 c =
     let called = c .before in
-    let known = called .before .before .before .before .before .shared-slice-known in
-    address-is-due _ (search needs) _ (search needs) (search needs) (λ i. known .given i .fits) _ (called .number4 .ensures) _ (c .spelled .ensures)
+    let asked = called .before .before in
+    address-is-due _ (search needs) _ (λ i. asked .before .shared-slice-known .given i .fits) _ (asked .number2 .ensures) (search needs)
+    _ (called .number4 .ensures) _ (c .spelled .ensures)
 
 pub address-is-spec : {M : Type 1} → statement M
 address-is-spec =
     tie.close
     (tie.spec
-    shared-slice-read-if1
+    number2-requires
     returns
-    shared-slice-read-if2
-    returns-2
     mul-digits
     mul-digits-2
     add-digits
@@ -61,4 +54,4 @@ address-is-spec =
     number4-requires
     cast-spelled
     spelled-requires
-    returns-3)
+    returns-2)
