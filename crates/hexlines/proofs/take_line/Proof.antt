@@ -1,5 +1,5 @@
 use borrow.Author.Needs.{needs}
-use Rattle.hexlines.specs.DueLaws.{takes-end-record, takes-due, takes-other}
+use Rattle.hexlines.specs.DueLineLaws.{takes-end-record, takes-due, takes-other}
 use Rattle.hexlines.proofs.take_line.Statement.{statement}
 use Rattle.hexlines.proofs.take_line.Tie as tie
 

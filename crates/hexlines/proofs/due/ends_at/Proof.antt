@@ -1,6 +1,6 @@
 use borrow.Author.Needs.{needs}
 use Rattle.hexlines.specs.LettersLaws.{when-not}
-use Rattle.hexlines.specs.DueLaws.{ends-lf, ends-crlf}
+use Rattle.hexlines.specs.CountLaws.{ends-lf, ends-crlf}
 use Rattle.hexlines.proofs.due.ends_at.Statement.{statement}
 use Rattle.hexlines.proofs.due.ends_at.Tie as tie
 

@@ -1,5 +1,5 @@
 use borrow.Author.Needs.{needs}
-use Rattle.hexlines.specs.DueLaws.{line-untouched, told-pairs-fit, told-end-fits, told-whole, told-inside, told-due}
+use Rattle.hexlines.specs.DueLineLaws.{line-untouched, told-pairs-fit, told-end-fits, told-whole, told-inside, told-due}
 use Rattle.hexlines.proofs.due.take_due.Statement.{statement}
 use Rattle.hexlines.proofs.due.take_due.Tie as tie
 

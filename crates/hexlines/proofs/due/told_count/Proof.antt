@@ -1,5 +1,5 @@
 use borrow.Author.Needs.{needs}
-use Rattle.hexlines.specs.DueLaws.{tells-none, tells-count}
+use Rattle.hexlines.specs.CountLaws.{tells-none, tells-count}
 use Rattle.hexlines.proofs.due.told_count.Statement.{statement}
 use Rattle.hexlines.proofs.due.told_count.Tie as tie
 
