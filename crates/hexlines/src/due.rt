@@ -18,7 +18,7 @@ const USUAL: usize = 16;
 
 // Whether a line has this many characters, and then its line end.
 fn ends_at(line: &[u8], end: usize) -> bool
-    requires { ⌜ end < 1000 ⌝ }
+    requires { ⌜ end ≤ 521 ⌝ }
     ensures { λ r. ⌜ When r (EndsAt (now (line .entry)) end) ⌝ }
 {
     if line.len() == end + 1 {
