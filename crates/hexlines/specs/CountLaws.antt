@@ -13,7 +13,7 @@ use Rattle.hextext.specs.Record.{digit}
 use Rattle.hextext.specs.RecordLaws.{byteAt}
 use Rattle.hexdigits.specs.DigitsLaws.{SpellsByte}
 use Rattle.hexline.specs.Line.{nextLine}
-use Rattle.hexlines.specs.LettersLaws.{When}
+use Rattle.hexlines.specs.LettersLaws.{When, UsualStart}
 
 pub record EndsAt (line : List ℕ) (end : ℕ) : Type 0 where
   pub is : nextLine line end ≡ length line
@@ -38,9 +38,6 @@ pub record LineCounted (line : List ℕ) (n : ℕ) : Type 0 where
 pub record TellsCount (line : List ℕ) (n : ℕ) : Type 0 where
   pub says : (n ≡ 0 → ⊥) → LineCounted line n
 
-pub tells-none : (line : List ℕ) → TellsCount line 0
-tells-none line = record { says = λ h. absurd (h refl) }
-
 pub tells-count : (line : List ℕ) (high low : ℕ) (answer : Bool) → getD line 0 0 ≡ 58 → high ≡ digit (getD line 1 0) → low ≡ digit (getD line 2 0)
     → high < 16 → low < 16 → When answer (EndsAt line (11 + (high * 16 + low) * 2)) → answer ≡ true → TellsCount line (high * 16 + low)
 unfolding byteAt
@@ -54,6 +51,23 @@ tells-count line high low answer c e f h k w t =
         ends = w .says t;
       };
     }
+
+pub usual-counted : (line : List ℕ) (answer : Bool) → length line ≡ 44 → UsualStart line → answer ≡ eqb (getD line 43 0) 10 → When answer (LineCounted line 16)
+unfolding digit byteAt
+usual-counted line answer size start e =
+    let count : byteAt line 1 ≡ 16 = rw (start .first, start .second) in
+    record {
+      says = λ q. record {
+        colon = start .colon;
+        count = record { high = rw (start .first) (omega arith); low = rw (start .second) (omega arith); is = sym count };
+        small = omega arith;
+        some = λ z. omega arith;
+        ends = ends-lf line 43 answer size e .says q;
+      };
+    }
+
+pub tells-usual : (line : List ℕ) (answer : Bool) → When answer (LineCounted line 16) → answer ≡ true → TellsCount line 16
+tells-usual line answer w t = record { says = λ h. w .says t }
 
 -- the same without its line end
 pub record Counted (l : List ℕ) (n : ℕ) : Type 0 where

@@ -282,6 +282,22 @@ module _ (byte : ℕ) (h : byte < 256) where
             (omega arith) (omega arith) (omega arith);
       }
 
+-- ---- a usual start
+
+-- `:100`
+pub record UsualStart (l : List ℕ) : Type 0 where
+  pub colon : getD l 0 0 ≡ 58
+  pub first : getD l 1 0 ≡ 49
+  pub second : getD l 2 0 ≡ 48
+
+pub usual-start : (l : List ℕ) (n : ℕ) → Bytes l → n ≡ numberAt 4 l 0 → n ≡ 808464698 → UsualStart l
+usual-start l n bytes is e =
+    let sum : n ≡ getD l 0 0 + 256 * (getD l 1 0 + 256 * (getD l 2 0 + 256 * getD l 3 0)) =
+    is ∙ rw (← by-low-byte 3 l 0, ← by-low-byte 2 l 1, ← by-low-byte 1 l 2, byte-at l 3) in
+    let there = four-bytes n (getD l 0 0) (getD l 1 0) (getD l 2 0) (getD l 3 0) sum (bytes 0) (bytes 1) (bytes 2) in
+    let due = four-bytes n 58 49 48 48 (e ∙ refl) (omega arith) (omega arith) (omega arith) in
+    record { colon = sym (there .first) ∙ due .first; first = sym (there .second) ∙ due .second; second = sym (there .third) ∙ due .third }
+
 -- ---- the end record
 
 abbrev pub endRecord : List ℕ

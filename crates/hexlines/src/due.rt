@@ -4,7 +4,7 @@ ghost use Prim.Native.Nat.{_+_, _*_, _≤_, _<_};
 ghost use lib.ListN.{length, take, drop};
 ghost use Rattle.hexdigits.specs.Digits.{PutsBytes};
 ghost use Rattle.hexlines.specs.LettersLaws.{When};
-ghost use Rattle.hexlines.specs.CountLaws.{EndsAt, TellsCount, Counted};
+ghost use Rattle.hexlines.specs.CountLaws.{EndsAt, LineCounted, TellsCount, Counted};
 ghost use Rattle.hexlines.specs.DueLaws.{RecordDue};
 ghost use Rattle.hexlines.specs.DueLineLaws.{LineDue};
 use crate::letters::address_is;
@@ -12,9 +12,13 @@ use crate::letters::byte_is;
 use hexdigits::digit;
 use hexdigits::put_bytes;
 use limits::LARGEST_IMAGE;
+use numbers::fields::number4;
 
 // Data bytes of most records.
 const USUAL: usize = 16;
+
+// The first four characters of such a record below address 4,096, `:100`, as a number.
+const USUAL_START: u32 = 0x3030_313a;
 
 // Whether a line has this many characters, and then its line end.
 fn ends_at(line: &[u8], end: usize) -> bool
@@ -33,11 +37,27 @@ fn ends_at(line: &[u8], end: usize) -> bool
     line[end + 1] == b'\n'
 }
 
+// Whether a line begins with those, and has the length of such a record and LF.
+fn is_usual(line: &[u8]) -> bool
+    ensures { λ r. ⌜ When r (LineCounted (now (line .entry)) 16) ⌝ }
+{
+    if line.len() != 44 {
+        return false;
+    }
+    if number4(line, 0) != USUAL_START {
+        return false;
+    }
+    line[43] == b'\n'
+}
+
 // The count of data bytes that a line tells, where it begins with a colon and ends where the count says; else 0.
 fn told_count(line: &[u8]) -> usize
     requires { ⌜ 12 < length (now line) ⌝ }
     ensures { λ r. ⌜ TellsCount (now (line .entry)) r ⌝ }
 {
+    if is_usual(line) {
+        return USUAL;
+    }
     if line[0] != b':' {
         return 0;
     }
