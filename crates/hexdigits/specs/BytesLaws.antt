@@ -1,22 +1,22 @@
 -- Bytes put into a buffer: a law for each way out, and what it says of the pairs of a longer line that they are taken from.
 use mathlib.Core.Path.{_≡_, refl, sym, _∙_}
-use mathlib.Core.Bool.{Bool, true, false, cond, _&&_}
+use mathlib.Core.Bool.{true, false, cond}
 use mathlib.Core.List.{List, []}
 use Prim.Native.Nat.{ℕ, _+_, _-_, _*_, _/_, _%_, _≤_, _<_}
 use native.Mathlib.Nat.{sub-zero}
 use native.Mathlib.Omega.{arith}
 use borrow.Author.Tests.{eq-eqb, le-leb, lt-leb, leb-true, lt-ltb}
-use lib.Dec.{ltb, leb, eqb}
-use lib.ListN.{length, take, drop, replicate, length-take, length-drop}
+use lib.Dec.{leb}
+use lib.ListN.{length, take, drop, length-take, length-drop}
 use lib.Seq.{paste}
-use Rattle.laws.specs.Cases.{decide, split}
+use Rattle.laws.specs.Cases.{decide}
 use Rattle.laws.specs.Sums.{total}
 use Rattle.numbers.specs.Slices.{clearedFrom}
 use Rattle.hextext.specs.Record.{allDigits, bytesOf}
 use Rattle.hextext.specs.RecordLaws.{allDigits-end, bytes-total-end}
 use Rattle.hexdigits.specs.Digits.{digitsSum, roomySum, bytesPut, PutsBytes, PutsNone}
 use Rattle.hexdigits.specs.PairsLaws.{PairsAddUp, sum-odd}
-use Rattle.hexdigits.specs.WrittenPairsLaws.{SumOfPairs, PairsWritten}
+use Rattle.hexdigits.specs.WrittenPairsLaws.{PairsWritten}
 use Rattle.hexdigits.specs.BlockLaws.{written-of-block}
 
 pub puts-none : (before after : List ℕ) → after ≡ clearedFrom 0 before → PutsNone before 256 after

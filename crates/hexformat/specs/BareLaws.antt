@@ -1,13 +1,12 @@
 -- A line with and without the CR before its LF.
-use mathlib.Core.Path.{_≡_, refl, sym, ap, _∙_}
+use mathlib.Core.Path.{_≡_, refl, ap, _∙_}
 use mathlib.Core.Bool.{Bool, true, false, cond}
 use mathlib.Core.List.{List, [], _∷_, _++_}
-use Prim.Native.Nat.{ℕ, zero, suc, _+_, _-_, _≤_, _<_}
+use Prim.Native.Nat.{ℕ, _+_, _-_}
 use native.Mathlib.Omega.{arith}
-use borrow.Author.Tests.{ne-eqb}
 use lib.Dec.{eqb}
-use lib.ListN.{length, take, drop, getD, length-append, take-append-drop, drop-of-length-le}
-use lib.Seq.{drop-cons, getD-append-seam, take-append-seam, getD-append-add, take-append-add}
+use lib.ListN.{length, take, getD, length-append}
+use lib.Seq.{getD-append-seam, take-append-seam, getD-append-add, take-append-add}
 use Rattle.hextext.specs.Text.{bare}
 use Rattle.hextext.specs.WithoutLaws.{without-one, bare-without}
 

@@ -1,19 +1,17 @@
 -- The reader at a line: how the characters of a line are gathered, and what it makes of a record.
 use mathlib.Core.Path.{_≡_, sym, ap, _∙_}
 use mathlib.Core.Bool.{true}
-use mathlib.Core.List.{List, [], _∷_, _++_, append-nil, append-assoc}
+use mathlib.Core.List.{List, [], _∷_, _++_, append-assoc}
 use Prim.Native.Nat.{ℕ, zero, suc, _+_, _*_, _%_, _/_, _<_}
 use native.Mathlib.Omega.{arith}
 use borrow.Author.Tests.{eq-eqb, ne-eqb}
-use lib.ListN.{length, getD, length-append, List·getD-eq-default}
+use lib.ListN.{length, length-append}
 use lib.Seq.{take-append-seam}
-use Rattle.laws.specs.Cases.{split}
 use Rattle.laws.specs.Sums.{total}
 use Rattle.refusals.specs.declared.Refusal.{Refusal}
-use Rattle.refusals.specs.Refusals.{Outcome, result, refused}
-use Rattle.hextext.specs.Record.{allDigits, recordBytes, dataOf, formed, summed, typed, lineOf, placed, judge}
-use Rattle.hextext.specs.RecordLaws.{digit-low, allDigits-at}
-use Rattle.hextext.specs.Text.{bare, after, reading}
+use Rattle.refusals.specs.Refusals.{result, refused}
+use Rattle.hextext.specs.Record.{recordBytes, dataOf, formed, summed, typed, lineOf, placed, judge}
+use Rattle.hextext.specs.Text.{after, reading}
 use Rattle.hextext.specs.WithoutLaws.{Without, without-append, without-one, digits-without, bare-without}
 use Rattle.hextext.specs.TextLaws.{reading-line}
 use Rattle.hextext.specs.declared.Record.{Record}

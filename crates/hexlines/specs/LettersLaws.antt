@@ -2,7 +2,7 @@
 use mathlib.Core.Path.{_≡_, refl, sym, ap, _∙_}
 use mathlib.Core.Bool.{Bool, true, false, not, _&&_}
 use mathlib.Core.List.{List, [], _∷_}
-use Prim.Native.Nat.{ℕ, zero, suc, _+_, _-_, _*_, _/_, _%_, _^_, _≤_, _<_}
+use Prim.Native.Nat.{ℕ, zero, suc, _+_, _-_, _*_, _/_, _%_, _^_, _<_}
 use native.Mathlib.Omega.{arith}
 use lib.Bits.{bitAnd, and-block, and-mask, and-le-r}
 use borrow.Author.Tests.{ltb-true, eqb-true}
@@ -17,7 +17,7 @@ use Rattle.laws.specs.Cases.{split, never, both-left, both-right}
 use Rattle.numbers.specs.Fields.{littleEndian, numberAt}
 use Rattle.numbers.specs.FieldsLaws.{number-of-halves, byte-at}
 use Rattle.hextext.specs.Record.{digit}
-use Rattle.hextext.specs.RecordLaws.{digit-decimal, digit-upper-case, digit-lower-case, digit-high, byteAt}
+use Rattle.hextext.specs.RecordLaws.{digit-decimal, digit-upper-case, digit-lower-case, byteAt}
 use Rattle.hexdigits.specs.DigitsLaws.{SpellsByte}
 
 -- ---- an answer that is yes only where something holds
@@ -36,18 +36,15 @@ when-yes false w t = never (sym t)
 -- ---- the character of a digit
 
 module _ (d : ℕ) (h : d < 16) where
-  pub lower-case-spells : digit (d + 48 + d / 10 * 39) ≡ d
+  lower-case-spells : digit (d + 48 + d / 10 * 39) ≡ d
   lower-case-spells =
       split 10 d (λ k. omega (arith, digit-lower-case (d + 48 + d / 10 * 39) (omega arith) (omega arith)))
       (λ k. omega (arith, digit-decimal (d + 48 + d / 10 * 39) (omega arith) (omega arith)))
 
-  pub upper-case-spells : digit (d + 48 + d / 10 * 7) ≡ d
+  upper-case-spells : digit (d + 48 + d / 10 * 7) ≡ d
   upper-case-spells =
       split 10 d (λ k. omega (arith, digit-upper-case (d + 48 + d / 10 * 7) (omega arith) (omega arith)))
       (λ k. omega (arith, digit-decimal (d + 48 + d / 10 * 7) (omega arith) (omega arith)))
-
-character-small : (c : ℕ) → digit c < 16 → c < 256
-character-small c h = split c 102 (λ k. omega arith) (λ k. omega (arith, digit-high c k))
 
 -- ---- the same number
 

@@ -1,5 +1,4 @@
 // A data record at the address that is due, as nearly all lines are: recognised by its characters, its data put as they are found.
-ghost use mathlib.Core.Path.{_≡_};
 ghost use Prim.Native.Nat.{_+_, _*_, _≤_, _<_};
 ghost use lib.ListN.{length, take, drop};
 ghost use Rattle.hexdigits.specs.Digits.{PutsBytes};

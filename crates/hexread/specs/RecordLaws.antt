@@ -13,7 +13,7 @@ use Rattle.laws.specs.Cases.{split, decide}
 use Rattle.laws.specs.Sums.{total}
 use Rattle.hextext.specs.declared.Record.{Record}
 use Rattle.hextext.specs.declared.Record.the-variants.{Data, End, Fault}
-use Rattle.hextext.specs.Record.{allDigits, bytesOf, recordBytes, countOf, dataOf, formed, summed, lineOf, typed, placed, judge}
+use Rattle.hextext.specs.Record.{allDigits, bytesOf, recordBytes, dataOf, formed, summed, lineOf, typed, placed, judge}
 use Rattle.hextext.specs.RecordLaws.{byteAt, allDigits-end, bytes-total-more, bytes-total-end, formed-at, judge-unformed, recordBytes-head}
 use Rattle.hexline.specs.TypedLaws.{end-empty, good-data-record}
 use Rattle.hexdigits.specs.Digits.{PutsBytes}

@@ -1,29 +1,29 @@
 -- A text taken by lines makes of a panel what the whole text makes of it.
 use mathlib.Core.Path.{_≡_, refl, sym, ap, _∙_}
-use mathlib.Core.Bool.{true, false}
+use mathlib.Core.Bool.{false}
 use mathlib.Core.List.{List, [], _∷_, _++_}
 use Prim.Native.Nat.{ℕ, zero, suc, _+_, _-_, _%_, _^_, _≤_, _<_, min}
 use native.Mathlib.Omega.{arith}
 use native.Mathlib.Nat.{sub-zero}
 use borrow.Author.Tests.{ne-eqb}
 use lib.Dec.{eqb}
-use lib.ListN.{length, take, drop, getD, set, replicate, length-append, length-set, length-replicate}
-use lib.Seq.{take-at, take-all, drop-append-add, set-append-left, set-set, set-getD, paste}
+use lib.ListN.{length, drop, getD, set, replicate, length-append, length-set, length-replicate}
+use lib.Seq.{take-at, take-all, drop-append-add, paste}
 use Rattle.limits.specs.Limits.{largestImage}
 use Rattle.refusals.specs.declared.Refusal.{Refusal}
 use Rattle.refusals.specs.declared.Verdict.{Verdict}
 use Rattle.refusals.specs.declared.Verdict.the-variants.{Accepted, Refused}
-use Rattle.refusals.specs.Refusals.{Outcome, result, refused, refusal, checked}
+use Rattle.refusals.specs.Refusals.{refused, checked}
 use Rattle.hextext.specs.declared.Record.{Record}
 use Rattle.hextext.specs.declared.Record.the-variants.{Data, End, Fault}
-use Rattle.hextext.specs.Lines.{linesOf, lineRecord, lineData, Progress, underWay, whole, stopped, afterRecord, afterLine, afterLines, atEnd}
+use Rattle.hextext.specs.Lines.{linesOf, lineRecord, lineData, Progress, underWay, whole, stopped, afterLine, afterLines, atEnd}
 use Rattle.promises.specs.LinesLaws.{lines-read}
 use Rattle.panel.specs.Verdict.{verdictOf}
 use Rattle.panel.specs.Load.{judged, loadText}
-use Rattle.lamp.specs.Panel.{textWhole, afterLoad, isLit, Standing, standing, ended}
+use Rattle.lamp.specs.Panel.{textWhole, isLit, Standing, standing, ended}
 use Rattle.lamp.specs.Panel.{underWay as panelUnderWay}
-use Rattle.lamp.specs.Events.{textLoaded, textBegun, firstKept, firstWithheld, recordTaken, nextTaken, lineTaken, linesTaken, imageJudged, wholeJudged, textEnded}
-use Rattle.lamp.specs.LoadsLaws.{DataFits, data-fits}
+use Rattle.lamp.specs.Events.{textLoaded, textBegun, firstKept, firstWithheld, nextTaken, lineTaken, linesTaken, imageJudged, wholeJudged, textEnded}
+use Rattle.lamp.specs.LoadsLaws.{data-fits}
 
 -- ---- what a panel and its buffer are, by how far the text has come
 

@@ -1,5 +1,5 @@
 -- A panel after any events is what its last load makes of it.
-use mathlib.Core.Bool.{true, false}
+use mathlib.Core.Bool.{true}
 use mathlib.Core.List.{List, [], _∷_, _++_}
 use mathlib.Core.Logic.{_↔_}
 use mathlib.Core.Path.{_≡_, refl, sym, ap, _∙_}
@@ -9,7 +9,7 @@ use lib.ListN.{length, take, replicate, length-append, length-take, length-repli
 use lib.Seq.{take-append-seam}
 use Rattle.limits.specs.Limits.{largestImage}
 use Rattle.laws.specs.Cases.{never}
-use Rattle.refusals.specs.Refusals.{Outcome, result, refused, checked, heldAfter}
+use Rattle.refusals.specs.Refusals.{Outcome, result, refused}
 use Rattle.refusals.specs.VerdictLaws.{checked-result}
 use Rattle.hextext.specs.Lines.{linesOf, joined, underWay, Progress, afterLine, afterLines, atEnd}
 use Rattle.promises.specs.LinesLaws.{lines-read, pieces-are-lines}
@@ -19,7 +19,7 @@ use Rattle.panel.specs.Verdict.{verdictOf}
 use Rattle.panel.specs.Load.{judged, loadText}
 use Rattle.lamp.specs.Panel.{Standing, levelKept, isLit, imageHeld}
 use Rattle.lamp.specs.Panel.{ended as endedLoad}
-use Rattle.lamp.specs.Events.{poweredOn, textLoaded, textBegun, lineTaken, textEnded}
+use Rattle.lamp.specs.Events.{poweredOn, textLoaded, lineTaken, textEnded}
 use Rattle.promises.specs.ByLinesLaws.{comesTo, standingOf, pieces-counted, begun-is, step, end-is, of-level, of-size, of-lamp}
 use Rattle.agreement.specs.VerdictAgrees.{verdict-accepted-exactly}
 use Rattle.promises.specs.History.{Event, loads, begins, takes, ends, isAsked, after, afterAll, Load, whole, byPieces, LastLoad, none, running, ended, next, lastAfter, TextSays, LoadSays}

@@ -1,20 +1,16 @@
 -- A panel's history: after any events from power-on the lamp tells the truth, and a reading is by the last load that began, or there is none.
-use mathlib.Core.Bool.{Bool, true, false, cond}
-use mathlib.Core.List.{List, [], _∷_, _++_}
+use mathlib.Core.Bool.{true, false, cond}
+use mathlib.Core.List.{List, [], _∷_}
 use mathlib.Core.Logic.{_↔_}
-use mathlib.Core.Path.{_≡_, refl, sym, ap, _∙_}
-use Prim.Native.Nat.{ℕ, zero, suc, _+_, _*_, _-_, _≤_, _<_, min}
+use mathlib.Core.Path.{_≡_, refl, _∙_}
+use Prim.Native.Nat.{ℕ, _+_, _-_, _≤_, _<_}
 use native.Mathlib.Omega.{arith}
 use borrow.Author.Tests.{ne-eqb}
 use lib.Dec.{eqb}
 use lib.ListN.{length, take, drop, getD, length-drop}
 use lib.Seq.{length-take-le, getD-drop}
-use denote.Ref.{now}
-use Rattle.laws.specs.Cases.{split, decide, never}
-use Rattle.paper.specs.Words.{Not}
-use Rattle.numbers.specs.Fields.{numberAt}
+use Rattle.laws.specs.Cases.{decide}
 use Rattle.numbers.specs.FieldsLaws.{byte-at}
-use Rattle.refusals.specs.declared.Filled.{Filled}
 use Rattle.refusals.specs.InNumbers.{filledNumber, filledDetail, filledLength}
 use Rattle.refusals.specs.Refusals.{Outcome, result, refused, refusal, answerTo, heldAfter}
 use Rattle.hextext.specs.declared.Record.the-variants.{Fault}
@@ -24,16 +20,13 @@ use Rattle.hextext.specs.Text.{bare}
 use Rattle.hextext.specs.Lines.{linesOf, lineInside, lineRecord}
 use Rattle.reading.specs.declared.Counts.{Counts}
 use Rattle.reading.specs.declared.Reading.{Reading}
-use Rattle.reading.specs.declared.Answer.{Answer}
 use Rattle.reading.specs.declared.Answer.the-variants.{Shown, Refused}
-use Rattle.panel.specs.declared.identities.Identified.{Identified}
 use Rattle.panel.specs.declared.identities.Identified.the-variants.{Refused as NotKnown}
 use Rattle.panel.specs.Verdict.{verdictOf}
 use Rattle.panel.specs.Identified.{identifiedBy}
 use Rattle.panel.specs.Levels.{isLevel}
 use Rattle.panel.specs.Reading.{readingOf}
 use Rattle.panel.specs.Load.{loadText}
-use Rattle.lamp.specs.declared.Panel.{Panel}
 use Rattle.lamp.specs.Panel.{levelKept, isLit, Standing}
 use Rattle.lamp.specs.Panel.{ended as endedLoad}
 use Rattle.lamp.specs.Events.{poweredOn, textLoaded, linesTaken, textBegun, textEnded, lineTaken}
@@ -42,7 +35,7 @@ use Rattle.lamp.specs.ForC.{statusForC}
 use Rattle.promises.specs.ByLinesLaws.{by-lines-whole, comesTo, pieces-taken, of-first}
 use Rattle.promises.specs.AnswersLaws.{load-refuses}
 use Rattle.promises.specs.ZerosLaws.{first-taken, layout-refused, zeros-refused}
-use Rattle.promises.specs.History.{Event, loads, begins, takes, ends, isAsked, after, afterAll, LastLoad, none, lastAfter, LoadSays}
+use Rattle.promises.specs.History.{Event, loads, begins, takes, ends, after, afterAll, none, lastAfter, LoadSays}
 use Rattle.promises.specs.HistoryLaws.{lamp-by-last, image-by-last, level-by-last}
 
 -- ---- a load by lines

@@ -1,7 +1,7 @@
 -- Histories that meet the theorems on the lamp: good, then bad; good, then a text that stops; two gauges in turn.
 use mathlib.Core.Bool.{true, false}
 use mathlib.Core.List.{List, [], _∷_}
-use mathlib.Core.Path.{_≡_, refl, sym, _∙_}
+use mathlib.Core.Path.{_≡_, refl}
 use Prim.Native.Nat.{ℕ, _≤_, min}
 use native.Mathlib.Omega.{arith}
 use lib.ListN.{length}
@@ -14,7 +14,7 @@ use Rattle.laws.specs.Characters.{characters}
 use Rattle.refusals.specs.declared.Verdict.the-variants.{Accepted}
 use Rattle.refusals.specs.Refusals.{result, refusal}
 use Rattle.hextext.specs.declared.Record.the-variants.{Data}
-use Rattle.hextext.specs.Record.{digit, allDigits, bytesOf, recordBytes, dataOf, formed, summed, lineOf, typed, placed, judge}
+use Rattle.hextext.specs.Record.{digit, allDigits, bytesOf, recordBytes, formed, summed, lineOf, typed, placed, judge}
 use Rattle.hextext.specs.Text.{bare, readText}
 use Rattle.hextext.specs.Text.{reading as readingText}
 use Rattle.hextext.specs.Lines.{lineInside, lineRecord, afterLine, afterLines}
@@ -26,13 +26,12 @@ use Rattle.reading.specs.declared.Counts.{Counts}
 use Rattle.reading.specs.declared.Answer.the-variants.{Refused}
 use Rattle.panel.specs.Verdict.{verdictOf}
 use Rattle.panel.specs.Reading.{readingOf}
-use Rattle.panel.specs.Load.{loadText}
 use Rattle.lamp.specs.Panel.{isLit}
 use Rattle.lamp.specs.Questions.{readingShown, gaugeTold}
 use Rattle.panel.specs.Identified.{identifiedBy}
 use Rattle.agreement.specs.VerdictAgrees.{verdict-accepted-exactly}
-use Rattle.promises.specs.Instances.{untrimmed-bytes, worked-bytes}
-use Rattle.promises.specs.WorkedReadings.{untrimmed-accepted-at-2, worked-accepted}
+use Rattle.promises.specs.Instances.{worked-bytes}
+use Rattle.promises.specs.WorkedReadings.{worked-accepted}
 use Rattle.promises.specs.History.{Event, loads, begins, takes, ends, isAsked, byPieces, lastAfter, TextSays}
 use Rattle.promises.specs.HistoryLaws.{ended-says}
 use Rattle.promises.specs.Lamp.{standsAfter, LastSays, lamp-exactly, reading-by-last-load, gauge-by-last-load, no-reading-unlit}

@@ -1,6 +1,6 @@
 -- A text taken line by line comes to what reading it whole comes to.
 use mathlib.Core.Path.{_≡_, refl, sym, ap, _∙_}
-use mathlib.Core.Bool.{true, false, cond}
+use mathlib.Core.Bool.{true, false}
 use mathlib.Core.List.{List, [], _∷_, _++_, append-assoc}
 use Prim.Native.Nat.{ℕ, suc, _+_, _-_, min}
 use native.Mathlib.Omega.{arith}
@@ -12,7 +12,7 @@ use Rattle.limits.specs.Limits.{largestImage}
 use Rattle.laws.specs.Cases.{decide}
 use Rattle.laws.specs.Lists.{ends-with}
 use Rattle.refusals.specs.declared.Refusal.{Refusal}
-use Rattle.refusals.specs.Refusals.{Outcome, result, refused, refusal}
+use Rattle.refusals.specs.Refusals.{result, refused, refusal}
 use Rattle.hextext.specs.declared.Record.{Record}
 use Rattle.hextext.specs.declared.Record.the-variants.{Data, End, Fault}
 use Rattle.hextext.specs.Record.{recordBytes, dataOf, formed, judge}
@@ -20,7 +20,7 @@ use Rattle.hextext.specs.RecordLaws.{judge-unformed}
 use Rattle.hextext.specs.Text.{bare, after, reading, readText}
 use Rattle.hextext.specs.WithoutLaws.{Without, formed-without}
 use Rattle.hextext.specs.TextLaws.{reading-line}
-use Rattle.hextext.specs.Lines.{linesFrom, linesOf, joined, lineInside, lineRecord, lineData, Progress, underWay, whole, stopped, afterRecord, afterLine, afterLines, atEnd}
+use Rattle.hextext.specs.Lines.{linesFrom, linesOf, joined, lineInside, lineRecord, lineData, underWay, whole, stopped, afterRecord, afterLine, afterLines, atEnd}
 
 -- ---- after a fault
 

@@ -2,7 +2,6 @@
 use mathlib.Core.List.{List, []}
 use mathlib.Core.Path.{_≡_, refl}
 use Prim.Native.Nat.{ℕ}
-use lib.ListN.{length}
 use denote.Ref.{now}
 use Rattle.paper.specs.Fields.{number}
 use Rattle.paper.specs.Table.{NoneGiven}
