@@ -1,14 +1,14 @@
 -- Power-on and loads: a law for each way out.
 use mathlib.Core.Path.{_≡_, refl, sym, ap, _∙_}
-use mathlib.Core.Bool.{true, false}
+use mathlib.Core.Bool.{true, false, cond}
 use mathlib.Core.List.{List, [], _∷_, _++_}
 use Prim.Native.Nat.{ℕ, zero, suc, _+_, _-_, _≤_, _<_, min}
 use native.Mathlib.Omega.{arith}
 use native.Mathlib.Nat.{sub-zero}
 use borrow.Author.Tests.{lt-ltb, le-ltb, eq-eqb, ne-eqb, eqb-true}
 use lib.Dec.{eqb}
-use lib.ListN.{length, take, getD, set, replicate, length-take, length-replicate}
-use lib.Seq.{set-out, take-all, paste}
+use lib.ListN.{length, take, getD, set, replicate, length-take, length-set, length-replicate}
+use lib.Seq.{set-out, take-all, paste, length-paste}
 use mir.Val.{Fits}
 use mir.Syntax.{w32}
 use Rattle.limits.specs.Limits.{largestImage}
@@ -19,7 +19,8 @@ use Rattle.refusals.specs.declared.Verdict.{Verdict}
 use Rattle.refusals.specs.declared.Verdict.the-variants.{Accepted, Refused as NotAccepted}
 use Rattle.refusals.specs.declared.Filled.{Filled}
 use Rattle.refusals.specs.declared.Filled.the-variants.{Length, Refused}
-use Rattle.refusals.specs.Refusals.{Outcome, result, refused, checked, answerTo, Fills, Settled}
+use Rattle.refusals.specs.InNumbers.{filledLength}
+use Rattle.refusals.specs.Refusals.{Outcome, result, refused, checked, answerTo, heldAfter, Fills, Settled}
 use Rattle.refusals.specs.RefusalsLaws.{result-of}
 use Rattle.refusals.specs.VerdictLaws.{first-passed, next-passed, checked-result}
 use Rattle.hextext.specs.declared.Record.{Record}
@@ -27,14 +28,15 @@ use Rattle.hextext.specs.declared.Record.the-variants.{Data, End, Fault}
 use Rattle.hextext.specs.Lines.{lineInside, lineRecord, lineData}
 use Rattle.hexline.specs.TypedLaws.{good-data-record, data-length}
 use Rattle.hextext.specs.Text.{readText}
+use Rattle.hexline.specs.Taken.{afterTaken}
 use Rattle.hexlines.specs.Taken.{TakesLine}
 use Rattle.image.specs.Layout.{layoutVerdict}
 use Rattle.image.specs.ContentsLaws.{contents-passed}
 use Rattle.panel.specs.Verdict.{levelVerdict, verdictOf}
-use Rattle.panel.specs.Load.{judged, answered, Keeps, loadText}
+use Rattle.panel.specs.Load.{judged, answered, kept, Keeps, loadText}
 use Rattle.lamp.specs.declared.Panel.{Panel}
-use Rattle.lamp.specs.Panel.{atLine, atEndRecord, atImage, sizeOf, underWay, afterLoad, levelKept, Standing, standing, ended}
-use Rattle.lamp.specs.Events.{poweredOn, textLoaded, textBegun, nextLine, stoppedPanel, stoppedBy, firstKept, firstWithheld, nextTaken, lineTaken, imageJudged, wholeJudged, textEnded}
+use Rattle.lamp.specs.Panel.{atLine, atEndRecord, atImage, sizeOf, underWay, textWhole, afterLoad, levelKept, isLit, sizeHeld, Standing, standing, ended}
+use Rattle.lamp.specs.Events.{poweredOn, textLoaded, textBegun, nextLine, stoppedPanel, stoppedBy, firstKept, firstWithheld, recordTaken, nextTaken, lineTaken, imageJudged, restored, wholeJudged, textEnded}
 
 module _ (level : ℕ) where
   pub level-small : level < 256 → level ≡ levelKept level

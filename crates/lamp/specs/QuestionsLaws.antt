@@ -4,7 +4,8 @@ use mathlib.Core.Bool.{Bool, true, false}
 use mathlib.Core.List.{List}
 use Prim.Native.Nat.{ℕ}
 use borrow.Author.Tests.{eq-eqb, ne-eqb}
-use lib.ListN.{take}
+use lib.Dec.{eqb}
+use lib.ListN.{take, drop}
 use denote.Ref.{RefT, now}
 use Rattle.numbers.specs.Slices.{IsPart}
 use Rattle.refusals.specs.Refusals.{refusal}
