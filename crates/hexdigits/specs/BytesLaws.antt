@@ -7,17 +7,22 @@ use native.Mathlib.Nat.{sub-zero}
 use native.Mathlib.Omega.{arith}
 use borrow.Author.Tests.{eq-eqb, le-leb, lt-leb, leb-true, lt-ltb}
 use lib.Dec.{leb}
-use lib.ListN.{length, take, drop, length-take, length-drop}
+use lib.ListN.{length, take, drop, replicate, length-take, length-drop}
 use lib.Seq.{paste}
 use Rattle.laws.specs.Cases.{decide}
 use Rattle.laws.specs.Sums.{total}
 use Rattle.numbers.specs.Slices.{clearedFrom}
 use Rattle.hextext.specs.Record.{allDigits, bytesOf}
 use Rattle.hextext.specs.RecordLaws.{allDigits-end, bytes-total-end}
-use Rattle.hexdigits.specs.Digits.{digitsSum, roomySum, bytesPut, PutsBytes, PutsNone}
+use Rattle.hexdigits.specs.Digits.{digitsSum, roomySum, bytesPut, PutsBytes}
 use Rattle.hexdigits.specs.PairsLaws.{PairsAddUp, sum-odd}
 use Rattle.hexdigits.specs.WrittenPairsLaws.{PairsWritten}
 use Rattle.hexdigits.specs.BlockLaws.{written-of-block}
+
+-- nothing written: 256, and the buffer cleared
+pub record PutsNone (before : List ℕ) (r : ℕ) (after : List ℕ) : Type 0 where
+  pub answers : r ≡ 256
+  pub holds : after ≡ replicate (length before) 0
 
 pub puts-none : (before after : List ℕ) → after ≡ clearedFrom 0 before → PutsNone before 256 after
 puts-none before after e = record { answers = refl; holds = e ∙ rw (sub-zero (length before)) }

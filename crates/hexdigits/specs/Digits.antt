@@ -28,8 +28,3 @@ bytesPut characters to buffer =
 pub record PutsBytes (characters : List ℕ) (to : ℕ) (before : List ℕ) (r : ℕ) (after : List ℕ) : Type 0 where
   pub answers : r ≡ roomySum characters to (length before)
   pub holds : after ≡ bytesPut characters to before
-
--- nothing written: 256, and the buffer cleared
-pub record PutsNone (before : List ℕ) (r : ℕ) (after : List ℕ) : Type 0 where
-  pub answers : r ≡ 256
-  pub holds : after ≡ replicate (length before) 0

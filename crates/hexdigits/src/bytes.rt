@@ -2,8 +2,9 @@
 ghost use mathlib.Core.Path.{_≡_};
 ghost use Prim.Native.Nat.{_+_, _*_, _≤_};
 ghost use lib.ListN.{length, take, drop};
-ghost use Rattle.hexdigits.specs.Digits.{PutsBytes, PutsNone};
+ghost use Rattle.hexdigits.specs.Digits.{PutsBytes};
 ghost use Rattle.hexdigits.specs.WrittenPairsLaws.{PairsWritten};
+ghost use Rattle.hexdigits.specs.BytesLaws.{PutsNone};
 use crate::digits::digit;
 use crate::digits::greatest;
 

@@ -107,6 +107,17 @@ four-bytes n p q r s e small less least =
     let three : n / 16777216 ≡ s = rw e (omega arith) in
     record { first = rw e (omega arith); second = rw one (omega arith); third = rw two (omega arith); fourth = three }
 
+digits-of-bytes : {n p q r s : ℕ} → FourBytes n p q r s → p < 16 → q < 16 → r < 16 → s < 16 → FourDigits n
+digits-of-bytes b small less least last =
+    record { first = rw (b .first) small; second = rw (b .second) less; third = rw (b .third) least; fourth = rw (b .fourth) last }
+
+-- those of a number that stands among bytes
+number-bytes : (l : List ℕ) (i n : ℕ) → Bytes l → n ≡ numberAt 4 l i
+    → FourBytes n (getD l i 0) (getD l (i + 1) 0) (getD l (i + 1 + 1) 0) (getD l (i + 1 + 1 + 1) 0)
+number-bytes l i n bytes is =
+    four-bytes n _ _ _ _ (is ∙ rw (← by-low-byte 3 l i, ← by-low-byte 2 l (i + 1), ← by-low-byte 1 l (i + 1 + 1), byte-at l (i + 1 + 1 + 1)))
+    (bytes i) (bytes (i + 1)) (bytes (i + 1 + 1))
+
 -- the mask keeps the lowest bit of each byte
 mask-byte : (y m : ℕ) → bitAnd y (m * 256 + 1) ≡ bitAnd (y / 256) m * 256 + y % 2
 mask-byte y m =
@@ -218,14 +229,7 @@ module _ (at : ℕ) (h : at < 4096) where
   address-bytes = four-bytes _ 0 (at / 256) (at / 16 % 16) (at % 16) (omega arith) (omega arith) (omega arith) (omega arith)
 
   pub address-digits : FourDigits (at / 256 * 256 + at / 16 % 16 * 65536 + at % 16 * 16777216)
-  address-digits =
-      let b = address-bytes in
-      record {
-        first = rw (b .first) (omega arith);
-        second = rw (b .second) (omega arith);
-        third = rw (b .third) (omega arith);
-        fourth = rw (b .fourth) (omega arith);
-      }
+  address-digits = digits-of-bytes address-bytes (omega arith) (omega arith) (omega arith) (omega arith)
 
   pub address-is-due : (l : List ℕ) → Bytes l → (kind : ℕ) → kind ≡ numberAt 2 l 7 → kind ≡ 12336 → (found : ℕ) → found ≡ numberAt 4 l 3 → (answer : Bool)
       → When answer (SpelledDigits found (at / 256 * 256 + at / 16 % 16 * 65536 + at % 16 * 16777216)) → When answer (AddressDue l at)
@@ -237,9 +241,7 @@ module _ (at : ℕ) (h : at < 4096) where
       let two : getD l 7 0 + 256 * getD l 8 0 ≡ 12336 = sym (rw (← by-low-byte 1 l 7, byte-at l 8)) ∙ sym e ∙ f in
       let seventh : getD l 7 0 ≡ 48 = omega arith in
       let eighth : getD l 8 0 ≡ 48 = omega arith in
-      let sum : found ≡ getD l 3 0 + 256 * (getD l 4 0 + 256 * (getD l 5 0 + 256 * getD l 6 0)) =
-      is ∙ rw (← by-low-byte 3 l 3, ← by-low-byte 2 l 4, ← by-low-byte 1 l 5, byte-at l 6) in
-      let c = four-bytes found (getD l 3 0) (getD l 4 0) (getD l 5 0) (getD l 6 0) sum (bytes 3) (bytes 4) (bytes 5) in
+      let c = number-bytes l 3 found bytes is in
       record {
         says = λ q.
             let s = w .says q in
@@ -257,14 +259,7 @@ module _ (byte : ℕ) (h : byte < 256) where
   byte-bytes = four-bytes _ (byte / 16) (byte % 16) 0 0 (omega arith) (omega arith) (omega arith) (omega arith)
 
   pub byte-digits : FourDigits (byte / 16 + byte % 16 * 256)
-  byte-digits =
-      let b = byte-bytes in
-      record {
-        first = rw (b .first) (omega arith);
-        second = rw (b .second) (omega arith);
-        third = rw (b .third) (omega arith);
-        fourth = rw (b .fourth) (omega arith);
-      }
+  byte-digits = digits-of-bytes byte-bytes (omega arith) (omega arith) (omega arith) (omega arith)
 
   pub byte-is-due : (l : List ℕ) (from found : ℕ) → Bytes l → found ≡ numberAt 2 l from
       → (answer : Bool) → When answer (SpelledDigits (found + 808452096) (byte / 16 + byte % 16 * 256)) → When answer (SpellsByte l from byte)
@@ -289,9 +284,7 @@ pub record UsualStart (l : List ℕ) : Type 0 where
 
 pub usual-start : (l : List ℕ) (n : ℕ) → Bytes l → n ≡ numberAt 4 l 0 → n ≡ 808464698 → UsualStart l
 usual-start l n bytes is e =
-    let sum : n ≡ getD l 0 0 + 256 * (getD l 1 0 + 256 * (getD l 2 0 + 256 * getD l 3 0)) =
-    is ∙ rw (← by-low-byte 3 l 0, ← by-low-byte 2 l 1, ← by-low-byte 1 l 2, byte-at l 3) in
-    let there = four-bytes n (getD l 0 0) (getD l 1 0) (getD l 2 0) (getD l 3 0) sum (bytes 0) (bytes 1) (bytes 2) in
+    let there = number-bytes l 0 n bytes is in
     let due = four-bytes n 58 49 48 48 (e ∙ refl) (omega arith) (omega arith) (omega arith) in
     record { colon = sym (there .first) ∙ due .first; first = sym (there .second) ∙ due .second; second = sym (there .third) ∙ due .third }
 
