@@ -1,5 +1,7 @@
 // What C and Rust call: numbers and slices in, a struct of numbers out. The C header is printed from here, with each function's
 // comment, so these speak to its reader.
+#![tactic(auto)]
+
 ghost use Rattle.std.specs.Prelude.{◌≡◌, length};
 ghost use Rattle.refusals.specs.ForC.{verdict_for_c, FillsForC};
 ghost use Rattle.hextext.specs.Text.{read_text};

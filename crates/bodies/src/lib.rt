@@ -1,4 +1,5 @@
 // The bodies of kinds 1, 4 and 129: is one right, and what it says. Every function answers for every slice.
+#![tactic(auto)]
 
 mod identities;
 // Kind 129 says nothing that is read: it has a verdict alone.

@@ -1,4 +1,6 @@
 // The builder: the image of a list of contents lines and their bodies.
+#![tactic(auto)]
+
 ghost use Rattle.builder.specs.Build.{Builds};
 ghost use Rattle.builder.specs.Lines.{lines_given};
 ghost use Rattle.builder.specs.TableLaws.{TableBuilds};

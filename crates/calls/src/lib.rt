@@ -1,1 +1,2 @@
 // No code: what a call is, what is known of its arguments, and how something is said of every call, in specs/.
+#![tactic(auto)]

@@ -1,4 +1,6 @@
 // The contents of an image: what a line says, and refusals 5 to 7; every function answers for every slice.
+#![tactic(auto)]
+
 ghost use Rattle.std.specs.Prelude.{◌≡◌};
 ghost use Rattle.numbers.specs.Fields.{number_at};
 ghost use Rattle.image.specs.Contents.{line_count, contents_verdict};

@@ -1,1 +1,2 @@
 // No code: what the public functions' own contracts say, in specs/.
+#![tactic(auto)]

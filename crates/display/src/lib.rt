@@ -1,4 +1,6 @@
 // What the show program prints of a HEX text: the verdict of each level on its image.
+#![tactic(auto)]
+
 ghost use Rattle.std.specs.Prelude.{◌≡◌, length};
 ghost use Rattle.io.specs.Counts.{IsPrefixLen};
 ghost use Rattle.refusals.specs.Refusals.{result, held_after};

@@ -1,4 +1,6 @@
 // The body of a kind in an image: the caller's own memory, or numbers that say where it stands.
+#![tactic(auto)]
+
 ghost use Rattle.std.specs.Prelude.{◌≡◌};
 ghost use Rattle.numbers.specs.Slices.{IsPart};
 ghost use Rattle.image.specs.Find.{found, found_offset, is_there, Found};

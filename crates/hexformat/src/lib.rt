@@ -1,1 +1,2 @@
 // No code: what is proved of HEX texts stands in specs/.
+#![tactic(auto)]

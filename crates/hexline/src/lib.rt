@@ -1,4 +1,5 @@
 // One line of a HEX text as a record, by itself: any characters are judged. What a text is read by stands on this.
+#![tactic(auto)]
 
 // A line judged as a record.
 mod judge;

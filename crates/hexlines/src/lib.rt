@@ -1,4 +1,6 @@
 // One line of a HEX text, with its line end, taken into the image that its text is read into.
+#![tactic(auto)]
+
 ghost use Rattle.hexlines.specs.Taken.{TakesLine};
 
 use any_line::take_any;

@@ -1,4 +1,6 @@
 // A HEX text read into a lent image.
+#![tactic(auto)]
+
 ghost use Rattle.std.specs.Prelude.{length};
 ghost use Rattle.refusals.specs.Refusals.{Fills};
 ghost use Rattle.hextext.specs.Text.{read_text};

@@ -1,4 +1,5 @@
 // No code: what a HEX text is stands in specs/. This names what a line of one is.
+#![tactic(auto)]
 
 // The fields of a record that stand before its data. Its kind is document 01's type: 0 for data, 1 for the end.
 #[derive(Drop)]

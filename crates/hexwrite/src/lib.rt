@@ -1,4 +1,6 @@
 // The HEX text of an image, written into a lent buffer.
+#![tactic(auto)]
+
 ghost use Rattle.std.specs.Prelude.{length};
 ghost use Rattle.refusals.specs.Refusals.{Fills};
 ghost use Rattle.hextext.specs.Written.{write_image};

@@ -1,4 +1,5 @@
 // A panel by value, over a lent image: its level, how far its last load has come, its lamp, and readings while the lamp is green.
+#![tactic(auto)]
 
 // A panel. Its caller keeps it, and hands it to the next call; any bytes are a panel, and its fields are the library's own.
 #[repr(C)]

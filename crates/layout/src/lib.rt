@@ -1,4 +1,6 @@
 // The layout of an image judged: refusals 5 to 8, each check finished for the whole image before the next.
+#![tactic(auto)]
+
 ghost use Rattle.std.specs.Prelude.{◌≡◌, length};
 ghost use Rattle.image.specs.Contents.{contents_verdict};
 ghost use Rattle.image.specs.Layout.{all_sums, layout_verdict};

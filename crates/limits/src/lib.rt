@@ -1,4 +1,5 @@
 // No code: document 01's limits and sizes, each with one name. A limit is itself allowed.
+#![tactic(auto)]
 
 // ---- the image
 

@@ -1,4 +1,5 @@
 // Numbers among bytes, and parts of a slice. Every function answers for every input.
+#![tactic(auto)]
 
 pub mod fields;
 pub mod slices;

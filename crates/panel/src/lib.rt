@@ -1,4 +1,5 @@
 // What a panel says of an image, of counts and of a text.
+#![tactic(auto)]
 
 // Which kinds a level knows.
 mod levels;

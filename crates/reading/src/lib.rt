@@ -1,4 +1,6 @@
 // From counts to a reading.
+#![tactic(auto)]
+
 use refusals::Refusal;
 
 // A number on the way to a reading, or why there is none.

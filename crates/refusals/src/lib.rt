@@ -1,4 +1,6 @@
 // How anything is refused, and what a lent buffer then holds.
+#![tactic(auto)]
+
 ghost use Rattle.std.specs.Prelude.{◌≡◌};
 ghost use Rattle.refusals.specs.Refusals.{refusal, Settled};
 ghost use Rattle.refusals.specs.FieldsVerdict.{refused_at};

@@ -1,4 +1,5 @@
 // Kinds 2 and 3, the pressure set and the temperature set: is one right, and what it says. Every function answers for every slice.
+#![tactic(auto)]
 
 mod coefficients;
 mod grids;

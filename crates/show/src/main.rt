@@ -1,5 +1,7 @@
 // Reads a HEX text on standard input, and prints the verdict of each level on its image. Where the text can't be read or the page
 // can't be written, it says why on standard error; a text that can't be read gets no verdict.
+#![tactic(auto)]
+
 use display::PAGE_SIZE;
 use limits::LONGEST_SHOWN_TEXT;
 

@@ -1,4 +1,6 @@
 // Reads the texts of data/, which others' tools wrote, and prints what the writer makes of each image, or the refusal.
+#![tactic(auto)]
+
 use limits::{LARGEST_IMAGE, LONGEST_SHOWN_TEXT, LONGEST_WRITTEN_TEXT};
 use refusals::{Filled, Refusal};
 

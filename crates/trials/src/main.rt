@@ -1,4 +1,6 @@
 // Shows the texts of data/, which are document 01's examples of the show program and what it says of long texts.
+#![tactic(auto)]
+
 use display::PAGE_SIZE;
 use limits::LONGEST_SHOWN_TEXT;
 

@@ -1,4 +1,6 @@
 // Signed whole numbers: a quotient rounded, and how far a number is from 0. Every function answers for every input.
+#![tactic(auto)]
+
 ghost use Rattle.std.specs.Prelude.{◌≡◌, not, ◌&&◌, leb, nat_abs, ◌+ℤ◌};
 ghost use Rattle.whole.specs.Wrapped.{wrapped};
 
