@@ -11,7 +11,7 @@ pub use notes::note_verdict;
 pub use trims::{read_trim, trim_verdict};
 
 // Kind 1. Temperatures are whole °C, pressures whole psi.
-#[derive(Drop)]
+#[derive(Clone, Copy)]
 pub struct Identity {
     pub serial: u32,
     pub year: u16,
@@ -24,7 +24,7 @@ pub struct Identity {
 }
 
 // Kind 4. The zero is in 1/65,536 of the unit.
-#[derive(Drop)]
+#[derive(Clone, Copy)]
 pub struct Trim {
     pub unit: u8,
     pub span: u32,

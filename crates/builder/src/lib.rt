@@ -19,7 +19,7 @@ mod write;
 mod table;
 
 // A contents line as the builder is given it.
-#[derive(Drop)]
+#[derive(Clone, Copy)]
 pub struct KindAndLength {
     pub kind: u32,
     pub length: usize,

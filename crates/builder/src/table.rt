@@ -9,7 +9,7 @@ use limits::MOST_LINES;
 const MOST_LOOKED_AT: usize = MOST_LINES + 1;
 
 // The first `count` kinds and lengths are those of the lines.
-#[derive(Drop)]
+#[derive(Clone, Copy)]
 pub struct Table {
     pub kinds: [u32; MOST_LOOKED_AT],
     pub lengths: [usize; MOST_LOOKED_AT],

@@ -14,7 +14,7 @@ use refusals::Verdict;
 mod checks;
 
 // What a contents line says: the kind, a byte that is to be 0, and where the body starts, how long it is, the sum of its bytes.
-#[derive(Drop)]
+#[derive(Clone, Copy)]
 pub struct ContentsLine {
     pub kind: u8,
     pub zero: u8,

@@ -9,7 +9,7 @@ use crate::PAGE_SIZE;
 const NUMBER_ROOM: usize = 20;
 
 // The bytes before `end` are what is printed.
-#[derive(Drop)]
+#[derive(Clone, Copy)]
 pub struct Page {
     pub bytes: [u8; PAGE_SIZE],
     pub end: usize,

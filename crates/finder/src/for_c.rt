@@ -6,7 +6,7 @@ use crate::Place;
 
 // Whether the kind is there, and where its body stands: its offset in the image and its length, 0 and 0 where it is not there.
 #[repr(C)]
-#[derive(Drop)]
+#[derive(Clone, Copy)]
 pub struct PlaceForC {
     pub there: bool,
     pub offset: usize,

@@ -15,7 +15,7 @@ mod for_c;
 pub use for_c::{PlaceForC, place_for_c};
 
 // Where a body stands: its offset in the image, and its length.
-#[derive(Drop)]
+#[derive(Clone, Copy)]
 pub enum Place {
     At(usize, usize),
     Nowhere,

@@ -11,7 +11,7 @@ use hextext::Record;
 
 // What the first line of a text is: a record of so many data bytes, or the end record, each with the next line's start,
 // or what it is refused by.
-#[derive(Drop)]
+#[derive(Clone, Copy)]
 pub enum Step {
     More(usize, usize),
     Last(usize),

@@ -2,7 +2,7 @@
 #![tactic(auto)]
 
 // The fields of a record that stand before its data. Its kind is document 01's type: 0 for data, 1 for the end.
-#[derive(Drop)]
+#[derive(Clone, Copy)]
 pub struct Header {
     pub count: usize,
     pub address: usize,
@@ -10,7 +10,7 @@ pub struct Header {
 }
 
 // A line by itself.
-#[derive(Drop)]
+#[derive(Clone, Copy)]
 pub enum TextLine {
     // a record
     Good(Header),
@@ -19,7 +19,7 @@ pub enum TextLine {
 }
 
 // A record in its place in a text.
-#[derive(Drop)]
+#[derive(Clone, Copy)]
 pub enum Record {
     // type 00, with so many data bytes
     Data(usize),

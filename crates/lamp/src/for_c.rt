@@ -9,7 +9,7 @@ use panel::Identified;
 // How a panel's last load stands. The lamp is green, number and detail are 0 and length has the bytes of the image; or the refusal's number
 // and detail; or all three are 0 while a text is under way. A level above 255 is kept as 0; neither is a level.
 #[repr(C)]
-#[derive(Drop)]
+#[derive(Clone, Copy)]
 pub struct StatusForC {
     pub number: u32,
     pub detail: u64,
@@ -20,7 +20,7 @@ pub struct StatusForC {
 
 // Number 0, and the serial number of the gauge and the date of its calibration; else the refusal's number and detail, and 0 for each value.
 #[repr(C)]
-#[derive(Drop)]
+#[derive(Clone, Copy)]
 pub struct GaugeForC {
     pub number: u32,
     pub detail: u64,

@@ -3,7 +3,7 @@
 
 // A panel. Its caller keeps it, and hands it to the next call; any bytes are a panel, and its fields are the library's own.
 #[repr(C)]
-#[derive(Drop)]
+#[derive(Clone, Copy)]
 pub struct Panel {
     // while a text is under way, how many of its lines were good; without an image, the detail of the refusal
     pub lines_or_detail: u64,

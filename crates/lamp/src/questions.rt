@@ -17,7 +17,7 @@ pub fn is_lit(panel: Panel) -> bool
 }
 
 // How the last load stands.
-#[derive(Drop)]
+#[derive(Clone, Copy)]
 pub enum LoadState {
     // the text has not ended
     UnderWay,

@@ -12,7 +12,7 @@ use bodies::Identity;
 use refusals::{Refusal, Verdict};
 
 // What an accepted image's first section says, or why the image is not accepted.
-#[derive(Drop)]
+#[derive(Clone, Copy)]
 pub enum Identified {
     Known(Identity),
     Refused(Refusal),

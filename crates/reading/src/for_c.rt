@@ -8,7 +8,7 @@ use crate::Answer;
 // BJORKNEVE_MARK_TEMPERATURE where the temperature lies outside the gauge's limits and BJORKNEVE_MARK_PRESSURE where the pressure
 // does, in psi and before trim. Else the refusal's number and detail, and 0 for each value.
 #[repr(C)]
-#[derive(Drop)]
+#[derive(Clone, Copy)]
 pub struct AnswerForC {
     pub number: u32,
     pub detail: u64,

@@ -27,17 +27,17 @@ pub use for_c::{AnswerForC, answer_for_c};
 
 // Cycles that a gauge's sensor ran.
 #[repr(C)]
-#[derive(Drop)]
+#[derive(Clone, Copy)]
 pub struct SensorCycles(pub u64);
 
 // Cycles of the 7.2 MHz reference that were counted while the sensor ran its own.
 #[repr(C)]
-#[derive(Drop)]
+#[derive(Clone, Copy)]
 pub struct ReferenceCycles(pub u64);
 
 // The counts of one sensor. They have types of their own, since a frequency is quietly wrong where they trade places.
 #[repr(C)]
-#[derive(Drop)]
+#[derive(Clone, Copy)]
 pub struct Channel {
     pub sensor: SensorCycles,
     pub reference: ReferenceCycles,
@@ -45,14 +45,14 @@ pub struct Channel {
 
 // The counts of both sensors.
 #[repr(C)]
-#[derive(Drop)]
+#[derive(Clone, Copy)]
 pub struct Counts {
     pub pressure: Channel,
     pub temperature: Channel,
 }
 
 // Pressure in 1/65,536 of the unit (1 psi, 2 bar, 3 kPa), temperature in 1/65,536 °C.
-#[derive(Drop)]
+#[derive(Clone, Copy)]
 pub struct Reading {
     pub pressure: i64,
     pub temperature: i64,
@@ -61,13 +61,13 @@ pub struct Reading {
 }
 
 // What a panel is told: a reading, or a refusal, which holds no pressure.
-#[derive(Drop)]
+#[derive(Clone, Copy)]
 pub enum Answer {
     Shown(Reading),
     Refused(Refusal),
 }
 
-#[derive(Drop)]
+#[derive(Clone, Copy)]
 pub enum Trimming {
     Untrimmed,
     By(bodies::Trim),

@@ -5,14 +5,14 @@ ghost use Rattle.reading.specs.Value.{within, both_of};
 
 use refusals::Refusal;
 
-#[derive(Drop)]
+#[derive(Clone, Copy)]
 pub enum Value {
     Known(i64),
     Refused(Refusal),
 }
 
 // One number for pressure and one for temperature, or the first refusal.
-#[derive(Drop)]
+#[derive(Clone, Copy)]
 pub enum Both {
     Known(i64, i64),
     Refused(Refusal),

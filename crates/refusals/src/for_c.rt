@@ -6,7 +6,7 @@ use crate::{Filled, Verdict};
 
 // Number 0 for yes; else why not, by the refusal's number and detail.
 #[repr(C)]
-#[derive(Drop)]
+#[derive(Clone, Copy)]
 pub struct VerdictForC {
     pub number: u32,
     pub detail: u64,
@@ -14,7 +14,7 @@ pub struct VerdictForC {
 
 // Number 0, and how many bytes of the buffer are the result; else the refusal's number and detail, and length 0.
 #[repr(C)]
-#[derive(Drop)]
+#[derive(Clone, Copy)]
 pub struct FilledForC {
     pub number: u32,
     pub detail: u64,

@@ -10,14 +10,14 @@ mod for_c;
 pub use for_c::{FilledForC, VerdictForC, filled_for_c, verdict_for_c};
 
 // A number of document 01's table and its detail, which is wide enough for the line of any text.
-#[derive(Drop)]
+#[derive(Clone, Copy)]
 pub struct Refusal {
     pub number: u32,
     pub detail: u64,
 }
 
 // What a check answers.
-#[derive(Drop)]
+#[derive(Clone, Copy)]
 pub enum Verdict {
     Accepted,
     Refused(Refusal),
@@ -38,7 +38,7 @@ pub fn refused_at(number: u32, place: usize) -> Verdict
 }
 
 // What the filling of a lent buffer answers: how many bytes from its start are the result, or why there is none.
-#[derive(Drop)]
+#[derive(Clone, Copy)]
 pub enum Filled {
     Length(usize),
     Refused(Refusal),

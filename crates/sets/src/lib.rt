@@ -9,7 +9,7 @@ pub use grids::read_grid;
 pub use sets::{read_prescales, set_verdict};
 
 // How a set prescales one channel's frequency.
-#[derive(Drop)]
+#[derive(Clone, Copy)]
 pub struct Prescale {
     pub order: u8,
     pub multiplier: u32,
@@ -17,7 +17,7 @@ pub struct Prescale {
 }
 
 // How a set prescales both frequencies: all that it says but its coefficients.
-#[derive(Drop)]
+#[derive(Clone, Copy)]
 pub struct Prescales {
     pub pressure: Prescale,
     pub temperature: Prescale,
