@@ -1,0 +1,9 @@
+use Rattle.std.proofs.Common.{◌-◌, length, rules}
+use Rattle.hexwrite.specs.DigitsLaws.{WritingBytes, writing_bytes_first, writing_bytes_more, writing_bytes_end}
+use Rattle.hexwrite.proofs.digits.put_by_table.Given as goal
+
+abbrev pub invariant-loop-i : goal.invariant-loop-i
+invariant-loop-i l = WritingBytes l.at l.bytes l.initial.text l.text l.i
+
+abbrev pub decreases-loop-i : goal.decreases-loop-i
+decreases-loop-i l = length l.bytes - l.i
