@@ -1,7 +1,7 @@
 // The image's bytes written into a buffer: the first two, the contents lines, the bodies.
 ghost use Rattle.std.specs.Prelude.{◌≡◌, ◌++◌, [], ◌∷◌, ◌+◌, ◌%◌, ◌≤◌, length, take, drop};
 ghost use Rattle.laws.specs.Sums.{total};
-ghost use Rattle.refusals.specs.Refusals.{result};
+ghost use Rattle.refusals.specs.Refusals.{result as the_result};
 ghost use Rattle.refusals.specs.RefusalsLaws.{Begins};
 ghost use Rattle.image.specs.Sections.{contents_line};
 ghost use Rattle.builder.specs.CheckLaws.{Buildable};
@@ -14,7 +14,7 @@ use refusals::Filled;
 // A contents line from `place` on.
 fn put_line(image: &mut [u8], place: usize, kind: u8, offset: u16, size: u16, sum: u16)
     requires { place + 8 ≤ length image.old }
-    ensures* { λ _. ⌜ take (place + 8) image.new ≡ take place image.old ++ contents_line kind offset size sum ⌝ }
+    ensures { take (place + 8) image.new ≡ take place image.old ++ contents_line kind offset size sum }
 {
     image[place] = kind;
     image[place + 1] = 0;
@@ -29,7 +29,7 @@ fn put_line(image: &mut [u8], place: usize, kind: u8, offset: u16, size: u16, su
 // The sum of the body that begins at `start`.
 fn body_sum(bodies: &[u8], start: usize, size: usize) -> u16
     requires { start + size ≤ length bodies.now }
-    ensures* { λ r. ⌜ r ≡ total (take size (drop start bodies.now)) % 65536 ⌝ }
+    ensures { result ≡ total (take size (drop start bodies.now)) % 65536 }
 {
     let end = start + size;
     slices::byte_sum(&bodies[start..end])
@@ -38,7 +38,7 @@ fn body_sum(bodies: &[u8], start: usize, size: usize) -> u16
 // The contents lines, after the image's first two bytes.
 fn put_contents(kinds: &[u32], lengths: &[usize], bodies: &[u8], image: &mut [u8])
     requires { Buildable kinds.now lengths.now bodies.now (length image.old) }
-    ensures* { λ _. ⌜ ContentsPut kinds.now lengths.now bodies.now image.old image.new ⌝ }
+    ensures { ContentsPut kinds.now lengths.now bodies.now image.old image.new }
 {
     let first = HEAD_SIZE + LINE_SIZE * kinds.len();
     let mut start: usize = 0;
@@ -62,7 +62,7 @@ fn put_contents(kinds: &[u32], lengths: &[usize], bodies: &[u8], image: &mut [u8
 // Copies `count` bytes more of the bodies, of which the image has those before `from`, from `place` on.
 fn copy_on(image: &mut [u8], place: usize, bodies: &[u8], from: usize, count: usize)
     requires { (place + length bodies.now ≤ length image.old) × (from + count ≤ length bodies.now) }
-    ensures* { λ _. ⌜ CopyingOn place bodies.now image.old from count image.new ⌝ }
+    ensures { CopyingOn place bodies.now image.old from count image.new }
 {
     let mut i: usize = 0;
     while i < count {
@@ -77,7 +77,7 @@ const BLOCK: usize = 128;
 // The bodies, from `place` on.
 fn put_bodies(image: &mut [u8], place: usize, bodies: &[u8])
     requires { place + length bodies.now ≤ length image.old }
-    ensures* { λ _. ⌜ take (place + length bodies.now) image.new ≡ take place image.old ++ bodies.now ⌝ }
+    ensures { take (place + length bodies.now) image.new ≡ take place image.old ++ bodies.now }
 {
     let mut i: usize = 0;
     while BLOCK <= bodies.len() - i {
@@ -90,7 +90,7 @@ fn put_bodies(image: &mut [u8], place: usize, bodies: &[u8])
 // The image's first two bytes.
 fn put_start(image: &mut [u8], count: u8)
     requires { 2 ≤ length image.old }
-    ensures* { λ _. ⌜ take 2 image.new ≡ 0x51 ∷ count ∷ [] ⌝ }
+    ensures { take 2 image.new ≡ 0x51 ∷ count ∷ [] }
 {
     image[0] = FIRST_BYTE;
     image[1] = count;
@@ -99,7 +99,7 @@ fn put_start(image: &mut [u8], count: u8)
 // The image, from the buffer's start.
 pub fn put_image(kinds: &[u32], lengths: &[usize], bodies: &[u8], image: &mut [u8]) -> Filled
     requires { Buildable kinds.now lengths.now bodies.now (length image.old) }
-    ensures* { λ r. ⌜ Begins (result (image_given kinds.now lengths.now bodies.now)) r image.new ⌝ }
+    ensures { Begins (the_result (image_given kinds.now lengths.now bodies.now)) result image.new }
 {
     put_start(image, kinds.len() as u8);
     put_contents(kinds, lengths, bodies, image);

@@ -1,0 +1,8 @@
+use borrow.Author.Rules.{rules}
+use Rattle.finder.specs.FinderLaws.{has_it, has_none}
+use Rattle.finder.proofs.has.Goals as goal
+
+ruleset laws = (rules, has_it, has_none)
+
+pub returns-in-Nowhere : goal.returns-in-Nowhere
+returns-in-Nowhere c = search laws
