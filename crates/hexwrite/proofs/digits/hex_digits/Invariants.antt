@@ -1,5 +1,5 @@
-use Rattle.std.proofs.Common.{◌-◌, rules}
-use Rattle.hexwrite.specs.DigitsLaws.{Digits, digits_first, digits_more, digits_end}
+use Rattle.std.proofs.Common.{◌-◌}
+use Rattle.hexwrite.specs.DigitsLaws.{Digits}
 use Rattle.hexwrite.proofs.digits.hex_digits.Given as goal
 
 abbrev pub invariant-loop-value : goal.invariant-loop-value

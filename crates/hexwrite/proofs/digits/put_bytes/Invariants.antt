@@ -1,5 +1,5 @@
-use Rattle.std.proofs.Common.{◌-◌, length, rules}
-use Rattle.hexwrite.specs.DigitsLaws.{WritingBytes, writing_bytes_first, second_fits, writing_bytes_pair, writing_bytes_end}
+use Rattle.std.proofs.Common.{◌-◌, length}
+use Rattle.hexwrite.specs.DigitsLaws.{WritingBytes}
 use Rattle.hexwrite.proofs.digits.put_bytes.Given as goal
 
 abbrev pub invariant-loop-i : goal.invariant-loop-i

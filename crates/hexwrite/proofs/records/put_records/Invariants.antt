@@ -1,5 +1,5 @@
-use Rattle.std.proofs.Common.{◌-◌, length, rules}
-use Rattle.hexwrite.specs.RecordsLaws.{Writing, writing_first, part_fits, part_small, writing_more, end_fits, writing_end}
+use Rattle.std.proofs.Common.{◌-◌, length}
+use Rattle.hexwrite.specs.RecordsLaws.{Writing}
 use Rattle.hexwrite.proofs.records.put_records.Given as goal
 
 abbrev pub invariant-loop-start : goal.invariant-loop-start

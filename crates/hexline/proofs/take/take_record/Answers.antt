@@ -1,0 +1,15 @@
+use borrow.Author.Rules.{rules}
+use Rattle.hexline.specs.TakenLaws.{takes_pairs_fit, takes_end_fits, takes_long, takes_data}
+use Rattle.hexline.proofs.take.take_record.Goals as goal
+
+pub overflow_mul-count : goal.overflow_mul-count
+overflow_mul-count c = search (rules, takes_pairs_fit)
+
+pub overflow_add-count : goal.overflow_add-count
+overflow_add-count c = search (rules, takes_end_fits)
+
+pub returns-in-Data : goal.returns-in-Data
+returns-in-Data c = search (rules, takes_data)
+
+pub slice_bounds-put_bytes-end : goal.slice_bounds-put_bytes-end
+slice_bounds-put_bytes-end c = search (rules, takes_long)
