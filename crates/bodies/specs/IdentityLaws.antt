@@ -1,8 +1,9 @@
--- Laws of an identity: what is read.
-use Rattle.std.specs.Prelude.{◌≡◌, List, ℕ, ℤ}
+-- Laws of an identity: what is read, and the days of a month.
+use Rattle.std.specs.Prelude.{◌≡◌, refl, cond, List, [], ◌∷◌, ℕ, zero, suc, ◌-◌, ◌≤◌, ℤ}
+use Rattle.std.proofs.Common.{arith, get_or}
 use Rattle.numbers.specs.Fields.{number_at, signed_at}
 use Rattle.bodies.specs.declared.Identity.{Identity}
-use Rattle.bodies.specs.Identity.{identity_of, days_in}
+use Rattle.bodies.specs.Identity.{identity_of, leap_year, month_lengths, days_in}
 
 pub identity_read : (body : List ℕ) {serial year month day : ℕ} {tmin tmax pmin pmax : ℤ}
     → serial ≡ number_at 4 body 0 → year ≡ number_at 2 body 4 → month ≡ number_at 1 body 6 → day ≡ number_at 1 body 7
@@ -12,6 +13,22 @@ pub identity_read : (body : List ℕ) {serial year month day : ℕ} {tmin tmax p
     (identity_of body)
 unfolding identity_of
 identity_read body a b c d e f g h = rw (a, b, c, d, e, f, g, h)
+
+-- February's days depend on the year, and those of the other months are listed
+pub days_february : (year month : ℕ) {days : ℕ} → days ≡ cond (leap_year year) 29 28 → month ≡ 2 → days ≡ days_in year month
+unfolding days_in
+days_february year month e two = rw two e
+
+pub days_listed : (year month : ℕ) → 1 ≤ month → (month ≡ 2 → ⊥)
+    → get_or (31 ∷ 28 ∷ 31 ∷ 30 ∷ 31 ∷ 30 ∷ 31 ∷ 31 ∷ 30 ∷ 31 ∷ 30 ∷ 31 ∷ []) (month - 1) 0 ≡ days_in year month
+unfolding days_in
+days_listed year month h other = by (month - 1) (λ e. other (omega arith))
+  where
+    by : (i : ℕ) → (i ≡ 1 → ⊥)
+        → get_or (31 ∷ 28 ∷ 31 ∷ 30 ∷ 31 ∷ 30 ∷ 31 ∷ 31 ∷ 30 ∷ 31 ∷ 30 ∷ 31 ∷ []) i 0 ≡ get_or (month_lengths year) i 0
+    by zero n = refl
+    by (suc zero) n = absurd (n refl)
+    by (suc (suc i)) n = refl
 
 -- of a year and a month that were read
 pub days_of : (days y m year month : ℕ) → days ≡ days_in y m → y ≡ year → m ≡ month → days ≡ days_in year month
