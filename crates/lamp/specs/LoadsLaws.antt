@@ -1,11 +1,10 @@
 -- Power-on and loads: a law for each way out.
-use Rattle.std.specs.Prelude.{◌≡◌, ℕ, zero, suc, ◌+◌, ◌-◌, ◌<◌, ◌≤◌, min, true, false, cond, List, [], ◌∷◌, ◌++◌, length, take, replicate, ◌==◌, ◌≢◌, nat_eq, slice_index, slice_set, refl}
-use Rattle.std.proofs.Common.{sym, ap, ◌∙◌, arith, length-take, length-set, take_all, Fits}
+use Rattle.std.specs.Prelude.{◌≡◌, ℕ, zero, suc, ◌+◌, ◌-◌, ◌<◌, ◌≤◌, min, true, false, List, [], ◌∷◌, ◌++◌, length, take, replicate, ◌==◌, ◌≢◌, nat_eq, slice_index, slice_set, refl}
+use Rattle.std.proofs.Common.{sym, ap, ◌∙◌, arith, length-take, take_all, Fits}
 use Rattle.std.proofs.Math.Nat.{sub-zero}
 use borrow.Author.Tests.{lt-ltb, le-ltb, eq-eqb, ne_eqb, eqb-true}
 use Rattle.std.proofs.lemmas.List.{length-replicate}
 use Rattle.std.proofs.Math.Seq.{set_out, paste}
-use Rattle.std.proofs.lemmas.List.Edits.{length-paste}
 use Rattle.std.specs.Int.{w32}
 use Rattle.limits.specs.Limits.{largest_image}
 use Rattle.laws.specs.Cases.{split, decide}
@@ -15,8 +14,7 @@ use Rattle.refusals.specs.declared.Verdict.{Verdict}
 use Rattle.refusals.specs.declared.Verdict.TheVariants.{Accepted, Refused as NotAccepted}
 use Rattle.refusals.specs.declared.Filled.{Filled}
 use Rattle.refusals.specs.declared.Filled.TheVariants.{Length, Refused}
-use Rattle.refusals.specs.InNumbers.{filled_length}
-use Rattle.refusals.specs.Refusals.{Outcome, result, refused, checked, answer_to, held_after, Fills, Settled}
+use Rattle.refusals.specs.Refusals.{Outcome, result, refused, checked, answer_to, Fills, Settled}
 use Rattle.refusals.specs.RefusalsLaws.{result_of}
 use Rattle.refusals.specs.VerdictLaws.{first_passed, next_passed, checked_result}
 use Rattle.hextext.specs.declared.Record.{Record}
@@ -24,15 +22,14 @@ use Rattle.hextext.specs.declared.Record.TheVariants.{Data, End, Fault}
 use Rattle.hextext.specs.Lines.{line_inside, line_record, line_data}
 use Rattle.hexline.specs.TypedLaws.{good_data_record, data_length}
 use Rattle.hextext.specs.Text.{read_text}
-use Rattle.hexline.specs.Taken.{after_taken}
 use Rattle.hexlines.specs.Taken.{TakesLine}
 use Rattle.image.specs.Layout.{layout_verdict}
 use Rattle.image.specs.ContentsLaws.{contents_passed}
 use Rattle.panel.specs.Verdict.{level_verdict, verdict_of}
-use Rattle.panel.specs.Load.{judged, answered, kept, Keeps, load_text}
+use Rattle.panel.specs.Load.{judged, answered, Keeps, load_text}
 use Rattle.lamp.specs.declared.Panel.{Panel}
-use Rattle.lamp.specs.Panel.{at_line, at_end_record, at_image, size_of, under_way, text_whole, after_load, level_kept, is_lit, size_held, Standing, standing, ended}
-use Rattle.lamp.specs.Events.{powered_on, text_loaded, text_begun, next_line, stopped_panel, stopped_by, first_kept, first_withheld, record_taken, next_taken, line_taken, image_judged, restored, whole_judged, text_ended}
+use Rattle.lamp.specs.Panel.{at_line, at_end_record, at_image, size_of, under_way, after_load, level_kept, Standing, standing, ended}
+use Rattle.lamp.specs.Events.{powered_on, text_loaded, text_begun, next_line, stopped_panel, stopped_by, first_kept, first_withheld, next_taken, line_taken, image_judged, whole_judged, text_ended}
 
 module _ (level : ℕ) where
   pub level_small : level < 256 → level ≡ level_kept level
