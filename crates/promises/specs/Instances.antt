@@ -27,7 +27,7 @@ use Rattle.reading.specs.declared.Answer.TheVariants.{Shown, Refused}
 use Rattle.panel.specs.Verdict.{verdict_of}
 use Rattle.panel.specs.Reading.{reading_of}
 use Rattle.panel.specs.Load.{load_text}
-use Rattle.hexwrite.proofs as hexwrite
+use Rattle.hexwrite.specs.contracts as hexwrite
 use Rattle.agreement.specs.KindsAgree.{none_found, found_is_had}
 use Rattle.agreement.specs.VerdictAgrees.{verdict_accepted_exactly, accepted_readable}
 use Rattle.image.specs.Merged.{merged, IsKind}
