@@ -1,5 +1,5 @@
 -- The panel's calls: each is the event that its name says, by its own contract, and answers in document 01's numbers.
-use Rattle.std.specs.Prelude.{List, [], ◌≡◌, ℕ}
+use Rattle.std.specs.Prelude.{List, ◌≡◌, ℕ}
 use Rattle.std.proofs.Math.Path.{refl}
 use Rattle.paper.specs.Fields.{number}
 use Rattle.paper.specs.Table.{NoneGiven}
