@@ -140,12 +140,15 @@ module _ (image : List ℕ) (counts : Counts) (right : Readable image) where
   pub sections_give : AnswerGives (counts_table image paper) (ShowsReading image counts) (sections_reading (sections image) counts)
   unfolding sections_reading measured_of
   sections_give =
-      answer_then (channel_table 1 paper.pressure_ns paper.pressure_nr) _ (Counted 1 paper.pressure_ns paper.pressure_nr) (ShowsReading image counts)
+      let last = set_table image paper 3 3 ++ [] in
+      let sets = set_table image paper 2 1 ++ last in
+      answer_then (channel_table 1 paper.pressure_ns paper.pressure_nr) (channel_table 2 paper.temperature_ns paper.temperature_nr ++ sets)
+      (Counted 1 paper.pressure_ns paper.pressure_nr) (ShowsReading image counts)
       (frequency_of 1 paper.pressure_ns paper.pressure_nr) _ (frequency_gives 1 paper.pressure_ns paper.pressure_nr)
-      (λ fp fp_is. answer_then (channel_table 2 paper.temperature_ns paper.temperature_nr) _
+      (λ fp fp_is. answer_then (channel_table 2 paper.temperature_ns paper.temperature_nr) sets
       (Counted 2 paper.temperature_ns paper.temperature_nr) (ShowsReading image counts)
       (frequency_of 2 paper.temperature_ns paper.temperature_nr) _ (frequency_gives 2 paper.temperature_ns paper.temperature_nr)
-      (λ ft ft_is. answer_then (set_table image paper 2 1) _ (λ (z : ℤ). Result (body 2) fp ft z) (ShowsReading image counts)
+      (λ ft ft_is. answer_then (set_table image paper 2 1) last (λ (z : ℤ). Result (body 2) fp ft z) (ShowsReading image counts)
       (set_result 2 1 (set_of (body 2)) fp ft) _
       (set_in_image fp ft fp_is ft_is 2 1 right.has_pressure_set (right.pressure_set_right (body 2) (there 2 right.has_pressure_set)))
       (λ pressure pressure_is. answer_then (set_table image paper 3 3) [] (λ (z : ℤ). Result (body 3) fp ft z) (ShowsReading image counts)

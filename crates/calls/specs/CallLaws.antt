@@ -7,6 +7,7 @@ use Rattle.std.proofs.Math.Bridge.{le_prop}
 use Rattle.std.proofs.Common.{arith}
 use seplogic.Ra.Ura.{Ura}
 use Rattle.std.specs.Int.{w8}
+use mir.Syntax.{named}
 use mir.Val.{Val}
 use base.Fml.{Fml, Lft, Share, flft}
 use base.Logic.{SProp, ent, sep, emp, guard, via, emp∗, comm∗, mono∗, mono_r, fst∗, snd∗}
@@ -20,7 +21,7 @@ use contract.Lifetimes.{Lfts, Shares, Within, lft_at, toks}
 use contract.Monad.{fact}
 use denote.Builtin.{SliceRef, SliceRefMut, u8}
 use denote.RattleType.{Denots, Valss, owns}
-use Rattle.std.specs.Borrow.{MutBor}
+use Rattle.std.specs.Borrow.{Bor, MutBor}
 use denote.Signature.{Signature, Slot, type_at, types_at}
 use denote.Triple.CanOwn.{CanOwn}
 use denote.Triple.Entry.{Vals, on_entry}
@@ -77,15 +78,15 @@ module _ {M : Type 1} {𝓤 : Ura M} (𝓛 : Logic 𝓤) where
       abbrev q : Share
       q = share_at n j ok qs
 
-      shared_fit : (x : MutBor (List ℕ)) (vs : List Val) → ent 𝓤 (sep 𝓤 (A.lft κ q) ⟦ own (SliceRef j ok u8 tt) x vs ⟧) (H.⇛ (fact 𝓤 (Fit x.now)))
+      shared_fit : (x : Bor (List ℕ)) (vs : List Val) → ent 𝓤 (sep 𝓤 (A.lft κ q) ⟦ own (SliceRef j ok u8 tt) x vs ⟧) (H.⇛ (fact 𝓤 (Fit x.now)))
       shared_fit x vs =
-          opened κ q (own (SliceRef j ok u8 tt) x vs) (OwnH 𝓛 (f_int w8) κ q x.ref_ptr.0 x.ref_ptr.1 x.ghost_name x.now) _ x.now
-          ((shr_laws 𝓛 n (rt_f (f_int w8)) j ok).own_in κs x vs) (shs_known 𝓛 (f_int w8) κ q x.ref_ptr.0 x.ref_ptr.1 x.ghost_name x.now)
+          opened κ q (own (SliceRef j ok u8 tt) x vs) (OwnH 𝓛 (f_int w8) κ q x.ref_ptr.0 x.ref_ptr.1 x.now) _ x.now
+          ((shr_laws 𝓛 n (rt_f (f_int w8)) (named j) j ok).own_in κs x vs) (shs_known 𝓛 (f_int w8) κ q x.ref_ptr.0 x.ref_ptr.1 x.now)
 
       buffer_fit : (x : MutBor (List ℕ)) (vs : List Val) → ent 𝓤 (sep 𝓤 (A.lft κ q) ⟦ own (SliceRefMut j ok u8 tt) x vs ⟧) (H.⇛ (fact 𝓤 (Fit x.now)))
       buffer_fit x vs =
           opened κ q (own (SliceRefMut j ok u8 tt) x vs) (OwnS 𝓛 (rt_f (f_int w8)) κ q x.ref_ptr.0 x.ref_ptr.1 x.ghost_name x.now) _ x.now
-          ((mut_laws 𝓛 n (rt_f (f_int w8)) j ok).own_in κs x vs) (sl_known 𝓛 (f_int w8) κ q x.ref_ptr.0 x.ref_ptr.1 x.ghost_name x.now)
+          ((mut_laws 𝓛 n (rt_f (f_int w8)) (named j) j ok).own_in κs x vs) (sl_known 𝓛 (f_int w8) κ q x.ref_ptr.0 x.ref_ptr.1 x.ghost_name x.now)
 
       -- one lifetime's token, and what the first parameter owns
       of_first : (s : Slot n) (x : (type_at s κs).Denot) (vs : List Val) (others : Fml)

@@ -3,16 +3,17 @@ use Rattle.std.specs.Prelude.{List, [], ◌∷◌, ◌≡◌, refl, ℕ, suc, �
 use Rattle.std.proofs.Math.Logic.{∥∥₁_map}
 use Rattle.std.proofs.Common.{sym, arith}
 use seplogic.Ra.Ura.{Ura}
-use seplogic.Ra.TreeShare.{full_share}
+use base.Fraction.{full_share}
 use mir.Syntax.{w8, named}
-use base.Fml.{Fml, GName, flent}
+use base.Fml.{Fml, GName, Incl-refl, flent}
+use ghost.Rules.{Toks}
 use base.Logic.{SProp, ent, sep, ex, emp, id⊢, via, emp∗, comm∗, mono∗, fst∗}
 use prog.AdequacyRun.{start_mem}
 use prog.Memory.{Memory}
 use prog.Model.{Model, AllFit}
 use prog.Wp.{Heap, run}
-use types.Logic.{Logic, sem}
-use types.Kit.{‵, raw, some, later, ◌⊛◌, ◌$◌, !, qed, move, keep, use1, split, join, pick, rewrite, feq_i, fjoin, frame, show, await, updating, done}
+use types.Logic.{Logic, sem, lfts}
+use types.Kit.{‵, raw, some, later, ◌⊛◌, ◌$◌, !, qed, move, keep, use1, use2, split, join, pick, rewrite, feq_i, fjoin, frame, show, await, updating, done}
 use types.Kit.{now as at_once}
 use types.SemTy.{cells}
 use types.Share.{arr_parts}
@@ -28,6 +29,8 @@ use denote.Steps.{nothing}
 use denote.Triple.Entry.{on_entry}
 use borrow.Fn.World.{w₀}
 use borrow.Rule.Slice.Shared.{parts-cells}
+use borrow.Table.Copies.{c_rf}
+use borrow.Table.Referent.{f_int}
 use Rattle.laws.specs.Bytes.{Bytes}
 use Rattle.calls.specs.Call.{Call, SliceAndBuffer, shared, buffer, next, lent}
 
@@ -39,36 +42,45 @@ module _ {M : Type 1} {𝓤 : Ura M} (𝓛 : Logic 𝓤) where
   run_cells (x ∷ l) b o = mono∗ 𝓤 (uint_in 𝓛 full_share w8 x b o) (run_cells l b (o + 1))
 
   module _ (result : Slot 2) (l m : List ℕ) where
-    -- the two lifetimes and the names of the two references
+    -- the two lifetimes and the name of the buffer
     abbrev Choice : Type 0
-    Choice = ℕ × ℕ × GName × GName
+    Choice = ℕ × ℕ × GName
 
     abbrev entry : Choice → SProp 𝓤
     entry c =
         on_entry 𝓛 (SliceAndBuffer result) (c.0 ∷ [], (c.1 ∷ [], tt)) (full_share, (full_share, tt))
-        (record { ref_ptr = (0, 0); ghost_name = c.2; now = l }, (record { ref_ptr = (1, 0); ghost_name = c.3; now = m }, tt))
+        (record { ref_ptr = (0, 0); now = l }, (record { ref_ptr = (1, 0); ghost_name = c.2; now = m }, tt))
         (slice_val (0, 0) (length l) ∷ [], (slice_val (1, 0) (length m) ∷ [], tt))
 
-    abbrev slice : ℕ → GName → Fml
-    slice α γ = (ShrSlice (named 0) (α ∷ []) u8).own_val (record { ref_ptr = (0, 0); now = l }) (slice_val (0, 0) (length l) ∷ [])
+    abbrev slice : ℕ → Fml
+    slice α = (ShrSlice (named 0) (α ∷ []) u8).own_val (record { ref_ptr = (0, 0); now = l }) (slice_val (0, 0) (length l) ∷ [])
+
+    -- what the slice's lender keeps
+    abbrev kept : ℕ → Fml
+    kept α = flent (α ∷ []) ((arr_parts (shares u8) (length l)).part full_share l 0 0)
 
     abbrev filled : ℕ → GName → Fml
     filled β δ = (MutSlice (named 1) (β ∷ []) u8).own_val (record { ref_ptr = (1, 0); ghost_name = δ; now = m }) (slice_val (1, 0) (length m) ∷ [])
+
+    abbrev whole : ℕ → Toks
+    whole α = (α ∷ [], full_share) ∷ []
 
     lends : Room u8 (length l) → Room u8 (length m) → ent 𝓤 (sep 𝓤 (run 𝓤 H full_share w8 0 0 l) (run 𝓤 H full_share w8 1 0 m)) (H.⇛ (ex 𝓤 entry))
     lends first second =
         qed 𝓛 (raw (run 𝓤 H full_share w8 0 0 l) ∷ raw (run 𝓤 H full_share w8 1 0 m) ∷ []) {P = H.⇛ (ex 𝓤 entry)} (
         updating ! $ use1 𝓛 (‵ (cells (mem u8) l 0 0)) (run_cells l 0 0) $ rewrite ! 0 (λ (F : Fml). ‵ F) (sym (parts-cells u8 full_share l 0 0)) refl $
-        feq_i ! ℕ (length l) (length l) refl $ fjoin ! $ lft_new ! tt (λ α. move ! (1 ∷ []) $
-        use1 𝓛 (later (some (λ (γ : GName). ‵ (slice α γ) ⊛ ‵ (flent (α ∷ []) ((arr_parts (shares u8) (length l)).part full_share l 0 0)))))
-        (lends_shr_slice 𝓛 u8 (named 0) (α ∷ []) full_share l 0 0 first) $ await ! tt $ pick ! (λ γ. split ! $
+        feq_i ! ℕ (length l) (length l) refl $ fjoin ! $ lft_new ! tt (λ α. move ! (1 ∷ 0 ∷ []) $
+        -- [the bytes; their lifetime's token; the run of m]
+        use2 𝓛 (later ((‵ (slice α) ⊛ ‵ (kept α)) ⊛ raw (lfts 𝓛 (whole α))))
+        (lends_shr_slice 𝓛 u8 (named 0) (α ∷ []) full_share l 0 0 first (α ∷ []) (((c_rf (f_int w8)).copied 𝓛).shares full_share (α ∷ [])) (whole α)
+        (Incl-refl (α ∷ [])) (Incl-refl (α ∷ []))) $ await ! tt $ split ! $ split ! $
         -- [the slice; what its lender keeps; its token; the run of m]
         move ! (3 ∷ []) $ use1 𝓛 (‵ (cells (mem u8) m 1 0)) (run_cells m 1 0) $ lft_new ! tt (λ β. move ! (1 ∷ []) $
         use1 𝓛 (later (some (λ (δ : GName). ‵ (filled β δ) ⊛ ‵ (flent (β ∷ []) (Held u8 (length m) 1 0 δ)))))
         (lends_slice 𝓛 u8 (named 1) (β ∷ []) m 1 0 second) $ await ! tt $ pick ! (λ δ. split ! $
         -- [the buffer; what its lender keeps; its token; the slice; what its lender keeps; its token]
-        at_once ! $ show ! entry (α, β, γ, δ) $ keep ! (5 ∷ 2 ∷ 3 ∷ 0 ∷ []) $
-        nothing ! $ move ! (2 ∷ 0 ∷ []) $ join ! $ move ! (1 ∷ 0 ∷ []) $ join ! $ frame ! $ frame ! $ frame ! $ done !)))))
+        at_once ! $ show ! entry (α, β, δ) $ keep ! (5 ∷ 2 ∷ 3 ∷ 0 ∷ []) $
+        nothing ! $ move ! (2 ∷ 0 ∷ []) $ join ! $ move ! (1 ∷ 0 ∷ []) $ join ! $ frame ! $ frame ! $ frame ! $ done !))))
 
 -- ---- at the closed model, from the memory with which a run begins
 
@@ -81,7 +93,7 @@ H₀ = w₀.𝓛.H
 abbrev 𝓜₀ : Model 𝓤₀ H₀
 𝓜₀ = w₀.𝓜
 
-abbrev entered : (result : Slot 2) (l m : List ℕ) → ℕ × ℕ × GName × GName → SProp 𝓤₀
+abbrev entered : (result : Slot 2) (l m : List ℕ) → ℕ × ℕ × GName → SProp 𝓤₀
 entered = entry w₀.𝓛
 
 fitting : (l : List ℕ) → Bytes l → AllFit w8 l
@@ -97,7 +109,7 @@ lendable result l m bytes bytes' short short' =
       record {
         model = w₀;
         lifetimes = (t.0.0 ∷ [], (t.0.1 ∷ [], tt));
-        arguments = (record { ref_ptr = (0, 0); ghost_name = t.0.2; now = l }, (record { ref_ptr = (1, 0); ghost_name = t.0.3; now = m }, tt));
+        arguments = (record { ref_ptr = (0, 0); now = l }, (record { ref_ptr = (1, 0); ghost_name = t.0.2; now = m }, tt));
         held = ∣ (
           σ,
           (full_share, (full_share, tt)),

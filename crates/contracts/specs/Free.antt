@@ -1,330 +1,351 @@
 -- Nothing has to be tested before a call: no public function's contract asks anything of its caller. `requires` is the function's own, as Rattle exports it.
 -- `tools/contracts` fails where a public function is left out.
 use Rattle.std.specs.Prelude.{refl}
-use Rattle.whole.proofs as whole
-use Rattle.whole.proofs.rounding as rounding
-use Rattle.numbers.proofs.fields as fields
-use Rattle.numbers.proofs.slices as slices
-use Rattle.refusals.proofs as refusals
-use Rattle.hexdigits.proofs as hexdigits
-use Rattle.hexline.proofs as hexline
-use Rattle.hexread.proofs as hexread
-use Rattle.hexlines.proofs as hexlines
-use Rattle.hexwrite.proofs as hexwrite
-use Rattle.contents.proofs as contents
-use Rattle.layout.proofs as layout
-use Rattle.finder.proofs as finder
-use Rattle.builder.proofs as builder
-use Rattle.sets.proofs as sets
-use Rattle.bodies.proofs as bodies
-use Rattle.reading.proofs as reading
-use Rattle.panel.proofs as panel
-use Rattle.lamp.proofs as lamp
-use Rattle.bjorkneve.proofs as bjorkneve
-use Rattle.display.proofs as display
+use Rattle.whole.specs.contracts as whole
+use Rattle.whole.proofs as whole_proofs
+use Rattle.whole.specs.contracts.rounding as rounding
+use Rattle.whole.proofs.rounding as rounding_proofs
+use Rattle.numbers.specs.contracts.fields as fields
+use Rattle.numbers.proofs.fields as fields_proofs
+use Rattle.numbers.specs.contracts.slices as slices
+use Rattle.numbers.proofs.slices as slices_proofs
+use Rattle.refusals.specs.contracts as refusals
+use Rattle.refusals.proofs as refusals_proofs
+use Rattle.hexdigits.specs.contracts as hexdigits
+use Rattle.hexdigits.proofs as hexdigits_proofs
+use Rattle.hexline.specs.contracts as hexline
+use Rattle.hexline.proofs as hexline_proofs
+use Rattle.hexread.specs.contracts as hexread
+use Rattle.hexread.proofs as hexread_proofs
+use Rattle.hexlines.specs.contracts as hexlines
+use Rattle.hexlines.proofs as hexlines_proofs
+use Rattle.hexwrite.specs.contracts as hexwrite
+use Rattle.hexwrite.proofs as hexwrite_proofs
+use Rattle.contents.specs.contracts as contents
+use Rattle.contents.proofs as contents_proofs
+use Rattle.layout.specs.contracts as layout
+use Rattle.layout.proofs as layout_proofs
+use Rattle.finder.specs.contracts as finder
+use Rattle.finder.proofs as finder_proofs
+use Rattle.builder.specs.contracts as builder
+use Rattle.builder.proofs as builder_proofs
+use Rattle.sets.specs.contracts as sets
+use Rattle.sets.proofs as sets_proofs
+use Rattle.bodies.specs.contracts as bodies
+use Rattle.bodies.proofs as bodies_proofs
+use Rattle.reading.specs.contracts as reading
+use Rattle.reading.proofs as reading_proofs
+use Rattle.panel.specs.contracts as panel
+use Rattle.panel.proofs as panel_proofs
+use Rattle.lamp.specs.contracts as lamp
+use Rattle.lamp.proofs as lamp_proofs
+use Rattle.bjorkneve.specs.contracts as bjorkneve
+use Rattle.bjorkneve.proofs as bjorkneve_proofs
+use Rattle.display.specs.contracts as display
+use Rattle.display.proofs as display_proofs
 use Rattle.contracts.specs.Contract.{AsksNothing}
 use Rattle.calls.specs.BuildReads as build
 
 -- whole
-pub magnitude_free : AsksNothing whole.magnitude.ended whole.magnitude.Reads.requires
+pub magnitude_free : AsksNothing whole.magnitude.ended whole_proofs.magnitude.Reads.requires
 magnitude_free _ _ _ = refl
 
-pub outside_free : AsksNothing whole.outside.ended whole.outside.Reads.requires
+pub outside_free : AsksNothing whole.outside.ended whole_proofs.outside.Reads.requires
 outside_free _ _ _ = refl
 
-pub beyond_free : AsksNothing whole.beyond.ended whole.beyond.Reads.requires
+pub beyond_free : AsksNothing whole.beyond.ended whole_proofs.beyond.Reads.requires
 beyond_free _ _ _ = refl
 
-pub wrapped_sum_free : AsksNothing whole.wrapped_sum.ended whole.wrapped_sum.Reads.requires
+pub wrapped_sum_free : AsksNothing whole.wrapped_sum.ended whole_proofs.wrapped_sum.Reads.requires
 wrapped_sum_free _ _ _ = refl
 
-pub rounded_over_2_24_free : AsksNothing rounding.rounded_over_2_24.ended rounding.rounded_over_2_24.Reads.requires
+pub rounded_over_2_24_free : AsksNothing rounding.rounded_over_2_24.ended rounding_proofs.rounded_over_2_24.Reads.requires
 rounded_over_2_24_free _ _ _ = refl
 
-pub rounded_over_2_28_free : AsksNothing rounding.rounded_over_2_28.ended rounding.rounded_over_2_28.Reads.requires
+pub rounded_over_2_28_free : AsksNothing rounding.rounded_over_2_28.ended rounding_proofs.rounded_over_2_28.Reads.requires
 rounded_over_2_28_free _ _ _ = refl
 
-pub rounded_over_2_32_free : AsksNothing rounding.rounded_over_2_32.ended rounding.rounded_over_2_32.Reads.requires
+pub rounded_over_2_32_free : AsksNothing rounding.rounded_over_2_32.ended rounding_proofs.rounded_over_2_32.Reads.requires
 rounded_over_2_32_free _ _ _ = refl
 
-pub rounded_quotient_free : AsksNothing rounding.rounded_quotient.ended rounding.rounded_quotient.Reads.requires
+pub rounded_quotient_free : AsksNothing rounding.rounded_quotient.ended rounding_proofs.rounded_quotient.Reads.requires
 rounded_quotient_free _ _ _ = refl
 
 -- numbers
-pub number1_free : AsksNothing fields.number1.ended fields.number1.Reads.requires
+pub number1_free : AsksNothing fields.number1.ended fields_proofs.number1.Reads.requires
 number1_free _ _ _ = refl
 
-pub number2_free : AsksNothing fields.number2.ended fields.number2.Reads.requires
+pub number2_free : AsksNothing fields.number2.ended fields_proofs.number2.Reads.requires
 number2_free _ _ _ = refl
 
-pub number4_free : AsksNothing fields.number4.ended fields.number4.Reads.requires
+pub number4_free : AsksNothing fields.number4.ended fields_proofs.number4.Reads.requires
 number4_free _ _ _ = refl
 
-pub number8_free : AsksNothing fields.number8.ended fields.number8.Reads.requires
+pub number8_free : AsksNothing fields.number8.ended fields_proofs.number8.Reads.requires
 number8_free _ _ _ = refl
 
-pub signed4_free : AsksNothing fields.signed4.ended fields.signed4.Reads.requires
+pub signed4_free : AsksNothing fields.signed4.ended fields_proofs.signed4.Reads.requires
 signed4_free _ _ _ = refl
 
-pub signed8_free : AsksNothing fields.signed8.ended fields.signed8.Reads.requires
+pub signed8_free : AsksNothing fields.signed8.ended fields_proofs.signed8.Reads.requires
 signed8_free _ _ _ = refl
 
-pub number_of_8_free : AsksNothing fields.number_of_8.ended fields.number_of_8.Reads.requires
+pub number_of_8_free : AsksNothing fields.number_of_8.ended fields_proofs.number_of_8.Reads.requires
 number_of_8_free _ _ _ = refl
 
-pub signed_of_8_free : AsksNothing fields.signed_of_8.ended fields.signed_of_8.Reads.requires
+pub signed_of_8_free : AsksNothing fields.signed_of_8.ended fields_proofs.signed_of_8.Reads.requires
 signed_of_8_free _ _ _ = refl
 
-pub byte_sum_free : AsksNothing slices.byte_sum.ended slices.byte_sum.Reads.requires
+pub byte_sum_free : AsksNothing slices.byte_sum.ended slices_proofs.byte_sum.Reads.requires
 byte_sum_free _ _ _ = refl
 
-pub part_free : AsksNothing slices.part.ended slices.part.Reads.requires
+pub part_free : AsksNothing slices.part.ended slices_proofs.part.Reads.requires
 part_free _ _ _ = refl
 
-pub clear_from_free : AsksNothing slices.clear_from.ended slices.clear_from.Reads.requires
+pub clear_from_free : AsksNothing slices.clear_from.ended slices_proofs.clear_from.Reads.requires
 clear_from_free _ _ _ = refl
 
 -- refusals
-pub refused_free : AsksNothing refusals.refused.ended refusals.refused.Reads.requires
+pub refused_free : AsksNothing refusals.refused.ended refusals_proofs.refused.Reads.requires
 refused_free _ _ _ = refl
 
-pub refused_at_free : AsksNothing refusals.refused_at.ended refusals.refused_at.Reads.requires
+pub refused_at_free : AsksNothing refusals.refused_at.ended refusals_proofs.refused_at.Reads.requires
 refused_at_free _ _ _ = refl
 
-pub verdict_for_c_free : AsksNothing refusals.verdict_for_c.ended refusals.verdict_for_c.Reads.requires
+pub verdict_for_c_free : AsksNothing refusals.verdict_for_c.ended refusals_proofs.verdict_for_c.Reads.requires
 verdict_for_c_free _ _ _ = refl
 
-pub filled_for_c_free : AsksNothing refusals.filled_for_c.ended refusals.filled_for_c.Reads.requires
+pub filled_for_c_free : AsksNothing refusals.filled_for_c.ended refusals_proofs.filled_for_c.Reads.requires
 filled_for_c_free _ _ _ = refl
 
-pub settled_free : AsksNothing refusals.settled.ended refusals.settled.Reads.requires
+pub settled_free : AsksNothing refusals.settled.ended refusals_proofs.settled.Reads.requires
 settled_free _ _ _ = refl
 
 -- hexdigits
-pub digit_free : AsksNothing hexdigits.digit.ended hexdigits.digit.Reads.requires
+pub digit_free : AsksNothing hexdigits.digit.ended hexdigits_proofs.digit.Reads.requires
 digit_free _ _ _ = refl
 
-pub digits_sum_free : AsksNothing hexdigits.digits_sum.ended hexdigits.digits_sum.Reads.requires
+pub digits_sum_free : AsksNothing hexdigits.digits_sum.ended hexdigits_proofs.digits_sum.Reads.requires
 digits_sum_free _ _ _ = refl
 
-pub put_bytes_free : AsksNothing hexdigits.put_bytes.ended hexdigits.put_bytes.Reads.requires
+pub put_bytes_free : AsksNothing hexdigits.put_bytes.ended hexdigits_proofs.put_bytes.Reads.requires
 put_bytes_free _ _ _ = refl
 
 -- hexline
-pub judge_line_free : AsksNothing hexline.judge_line.ended hexline.judge_line.Reads.requires
+pub judge_line_free : AsksNothing hexline.judge_line.ended hexline_proofs.judge_line.Reads.requires
 judge_line_free _ _ _ = refl
 
-pub judge_header_free : AsksNothing hexline.judge_header.ended hexline.judge_header.Reads.requires
+pub judge_header_free : AsksNothing hexline.judge_header.ended hexline_proofs.judge_header.Reads.requires
 judge_header_free _ _ _ = refl
 
-pub judge_in_place_free : AsksNothing hexline.judge_in_place.ended hexline.judge_in_place.Reads.requires
+pub judge_in_place_free : AsksNothing hexline.judge_in_place.ended hexline_proofs.judge_in_place.Reads.requires
 judge_in_place_free _ _ _ = refl
 
-pub room_in_free : AsksNothing hexline.room_in.ended hexline.room_in.Reads.requires
+pub room_in_free : AsksNothing hexline.room_in.ended hexline_proofs.room_in.Reads.requires
 room_in_free _ _ _ = refl
 
-pub data_byte_free : AsksNothing hexline.data_byte.ended hexline.data_byte.Reads.requires
+pub data_byte_free : AsksNothing hexline.data_byte.ended hexline_proofs.data_byte.Reads.requires
 data_byte_free _ _ _ = refl
 
-pub line_length_free : AsksNothing hexline.line_length.ended hexline.line_length.Reads.requires
+pub line_length_free : AsksNothing hexline.line_length.ended hexline_proofs.line_length.Reads.requires
 line_length_free _ _ _ = refl
 
-pub bare_length_free : AsksNothing hexline.bare_length.ended hexline.bare_length.Reads.requires
+pub bare_length_free : AsksNothing hexline.bare_length.ended hexline_proofs.bare_length.Reads.requires
 bare_length_free _ _ _ = refl
 
-pub next_line_free : AsksNothing hexline.next_line.ended hexline.next_line.Reads.requires
+pub next_line_free : AsksNothing hexline.next_line.ended hexline_proofs.next_line.Reads.requires
 next_line_free _ _ _ = refl
 
-pub take_record_free : AsksNothing hexline.take_record.ended hexline.take_record.Reads.requires
+pub take_record_free : AsksNothing hexline.take_record.ended hexline_proofs.take_record.Reads.requires
 take_record_free _ _ _ = refl
 
 -- hexread
-pub read_free : AsksNothing hexread.read.ended hexread.read.Reads.requires
+pub read_free : AsksNothing hexread.read.ended hexread_proofs.read.Reads.requires
 read_free _ _ _ = refl
 
 -- hexlines
-pub take_line_free : AsksNothing hexlines.take_line.ended hexlines.take_line.Reads.requires
+pub take_line_free : AsksNothing hexlines.take_line.ended hexlines_proofs.take_line.Reads.requires
 take_line_free _ _ _ = refl
 
 -- hexwrite
-pub write_free : AsksNothing hexwrite.write.ended hexwrite.write.Reads.requires
+pub write_free : AsksNothing hexwrite.write.ended hexwrite_proofs.write.Reads.requires
 write_free _ _ _ = refl
 
 -- contents
-pub line_count_free : AsksNothing contents.line_count.ended contents.line_count.Reads.requires
+pub line_count_free : AsksNothing contents.line_count.ended contents_proofs.line_count.Reads.requires
 line_count_free _ _ _ = refl
 
-pub line_in_free : AsksNothing contents.line_in.ended contents.line_in.Reads.requires
+pub line_in_free : AsksNothing contents.line_in.ended contents_proofs.line_in.Reads.requires
 line_in_free _ _ _ = refl
 
-pub line_at_free : AsksNothing contents.line_at.ended contents.line_at.Reads.requires
+pub line_at_free : AsksNothing contents.line_at.ended contents_proofs.line_at.Reads.requires
 line_at_free _ _ _ = refl
 
-pub contents_verdict_free : AsksNothing contents.contents_verdict.ended contents.contents_verdict.Reads.requires
+pub contents_verdict_free : AsksNothing contents.contents_verdict.ended contents_proofs.contents_verdict.Reads.requires
 contents_verdict_free _ _ _ = refl
 
 -- layout
-pub layout_free : AsksNothing layout.layout.ended layout.layout.Reads.requires
+pub layout_free : AsksNothing layout.layout.ended layout_proofs.layout.Reads.requires
 layout_free _ _ _ = refl
 
 -- finder
-pub stated_free : AsksNothing finder.stated.ended finder.stated.Reads.requires
+pub stated_free : AsksNothing finder.stated.ended finder_proofs.stated.Reads.requires
 stated_free _ _ _ = refl
 
-pub place_of_free : AsksNothing finder.place_of.ended finder.place_of.Reads.requires
+pub place_of_free : AsksNothing finder.place_of.ended finder_proofs.place_of.Reads.requires
 place_of_free _ _ _ = refl
 
-pub has_free : AsksNothing finder.has.ended finder.has.Reads.requires
+pub has_free : AsksNothing finder.has.ended finder_proofs.has.Reads.requires
 has_free _ _ _ = refl
 
-pub place_for_c_free : AsksNothing finder.place_for_c.ended finder.place_for_c.Reads.requires
+pub place_for_c_free : AsksNothing finder.place_for_c.ended finder_proofs.place_for_c.Reads.requires
 place_for_c_free _ _ _ = refl
 
-pub part_at_free : AsksNothing finder.part_at.ended finder.part_at.Reads.requires
+pub part_at_free : AsksNothing finder.part_at.ended finder_proofs.part_at.Reads.requires
 part_at_free _ _ _ = refl
 
-pub find_free : AsksNothing finder.find.ended finder.find.Reads.requires
+pub find_free : AsksNothing finder.find.ended finder_proofs.find.Reads.requires
 find_free _ _ _ = refl
 
 -- builder
-pub build_from_numbers_free : AsksNothing builder.build_from_numbers.ended builder.build_from_numbers.Reads.requires
+pub build_from_numbers_free : AsksNothing builder.build_from_numbers.ended builder_proofs.build_from_numbers.Reads.requires
 build_from_numbers_free _ _ _ = refl
 
 pub build_free : AsksNothing builder.build.ended build.requires
 build_free _ _ _ = refl
 
 -- sets
-pub read_prescales_free : AsksNothing sets.read_prescales.ended sets.read_prescales.Reads.requires
+pub read_prescales_free : AsksNothing sets.read_prescales.ended sets_proofs.read_prescales.Reads.requires
 read_prescales_free _ _ _ = refl
 
-pub set_verdict_free : AsksNothing sets.set_verdict.ended sets.set_verdict.Reads.requires
+pub set_verdict_free : AsksNothing sets.set_verdict.ended sets_proofs.set_verdict.Reads.requires
 set_verdict_free _ _ _ = refl
 
-pub read_grid_free : AsksNothing sets.read_grid.ended sets.read_grid.Reads.requires
+pub read_grid_free : AsksNothing sets.read_grid.ended sets_proofs.read_grid.Reads.requires
 read_grid_free _ _ _ = refl
 
 -- bodies
-pub read_identity_free : AsksNothing bodies.read_identity.ended bodies.read_identity.Reads.requires
+pub read_identity_free : AsksNothing bodies.read_identity.ended bodies_proofs.read_identity.Reads.requires
 read_identity_free _ _ _ = refl
 
-pub identity_verdict_free : AsksNothing bodies.identity_verdict.ended bodies.identity_verdict.Reads.requires
+pub identity_verdict_free : AsksNothing bodies.identity_verdict.ended bodies_proofs.identity_verdict.Reads.requires
 identity_verdict_free _ _ _ = refl
 
-pub read_trim_free : AsksNothing bodies.read_trim.ended bodies.read_trim.Reads.requires
+pub read_trim_free : AsksNothing bodies.read_trim.ended bodies_proofs.read_trim.Reads.requires
 read_trim_free _ _ _ = refl
 
-pub trim_verdict_free : AsksNothing bodies.trim_verdict.ended bodies.trim_verdict.Reads.requires
+pub trim_verdict_free : AsksNothing bodies.trim_verdict.ended bodies_proofs.trim_verdict.Reads.requires
 trim_verdict_free _ _ _ = refl
 
-pub note_verdict_free : AsksNothing bodies.note_verdict.ended bodies.note_verdict.Reads.requires
+pub note_verdict_free : AsksNothing bodies.note_verdict.ended bodies_proofs.note_verdict.Reads.requires
 note_verdict_free _ _ _ = refl
 
 -- reading
-pub measured_free : AsksNothing reading.measured.ended reading.measured.Reads.requires
+pub measured_free : AsksNothing reading.measured.ended reading_proofs.measured.Reads.requires
 measured_free _ _ _ = refl
 
-pub answer_for_c_free : AsksNothing reading.answer_for_c.ended reading.answer_for_c.Reads.requires
+pub answer_for_c_free : AsksNothing reading.answer_for_c.ended reading_proofs.answer_for_c.Reads.requires
 answer_for_c_free _ _ _ = refl
 
 -- panel
-pub verdict_free : AsksNothing panel.verdict.ended panel.verdict.Reads.requires
+pub verdict_free : AsksNothing panel.verdict.ended panel_proofs.verdict.Reads.requires
 verdict_free _ _ _ = refl
 
-pub reading_free : AsksNothing panel.reading.ended panel.reading.Reads.requires
+pub reading_free : AsksNothing panel.reading.ended panel_proofs.reading.Reads.requires
 reading_free _ _ _ = refl
 
-pub load_free : AsksNothing panel.load.ended panel.load.Reads.requires
+pub load_free : AsksNothing panel.load.ended panel_proofs.load.Reads.requires
 load_free _ _ _ = refl
 
-pub identity_free : AsksNothing panel.identity.ended panel.identity.Reads.requires
+pub identity_free : AsksNothing panel.identity.ended panel_proofs.identity.Reads.requires
 identity_free _ _ _ = refl
 
-pub keep_accepted_free : AsksNothing panel.keep_accepted.ended panel.keep_accepted.Reads.requires
+pub keep_accepted_free : AsksNothing panel.keep_accepted.ended panel_proofs.keep_accepted.Reads.requires
 keep_accepted_free _ _ _ = refl
 
 -- lamp
-pub power_on_free : AsksNothing lamp.power_on.ended lamp.power_on.Reads.requires
+pub power_on_free : AsksNothing lamp.power_on.ended lamp_proofs.power_on.Reads.requires
 power_on_free _ _ _ = refl
 
-pub panel_load_free : AsksNothing lamp.load.ended lamp.load.Reads.requires
+pub panel_load_free : AsksNothing lamp.load.ended lamp_proofs.load.Reads.requires
 panel_load_free _ _ _ = refl
 
-pub begin_free : AsksNothing lamp.begin.ended lamp.begin.Reads.requires
+pub begin_free : AsksNothing lamp.begin.ended lamp_proofs.begin.Reads.requires
 begin_free _ _ _ = refl
 
-pub line_free : AsksNothing lamp.line.ended lamp.line.Reads.requires
+pub line_free : AsksNothing lamp.line.ended lamp_proofs.line.Reads.requires
 line_free _ _ _ = refl
 
-pub end_free : AsksNothing lamp.end.ended lamp.end.Reads.requires
+pub end_free : AsksNothing lamp.end.ended lamp_proofs.end.Reads.requires
 end_free _ _ _ = refl
 
-pub is_lit_free : AsksNothing lamp.is_lit.ended lamp.is_lit.Reads.requires
+pub is_lit_free : AsksNothing lamp.is_lit.ended lamp_proofs.is_lit.Reads.requires
 is_lit_free _ _ _ = refl
 
-pub load_state_free : AsksNothing lamp.load_state.ended lamp.load_state.Reads.requires
+pub load_state_free : AsksNothing lamp.load_state.ended lamp_proofs.load_state.Reads.requires
 load_state_free _ _ _ = refl
 
-pub panel_reading_free : AsksNothing lamp.reading.ended lamp.reading.Reads.requires
+pub panel_reading_free : AsksNothing lamp.reading.ended lamp_proofs.reading.Reads.requires
 panel_reading_free _ _ _ = refl
 
-pub gauge_free : AsksNothing lamp.gauge.ended lamp.gauge.Reads.requires
+pub gauge_free : AsksNothing lamp.gauge.ended lamp_proofs.gauge.Reads.requires
 gauge_free _ _ _ = refl
 
-pub status_for_c_free : AsksNothing lamp.status_for_c.ended lamp.status_for_c.Reads.requires
+pub status_for_c_free : AsksNothing lamp.status_for_c.ended lamp_proofs.status_for_c.Reads.requires
 status_for_c_free _ _ _ = refl
 
-pub gauge_for_c_free : AsksNothing lamp.gauge_for_c.ended lamp.gauge_for_c.Reads.requires
+pub gauge_for_c_free : AsksNothing lamp.gauge_for_c.ended lamp_proofs.gauge_for_c.Reads.requires
 gauge_for_c_free _ _ _ = refl
 
 -- bjorkneve
-pub bjorkneve_read_free : AsksNothing bjorkneve.bjorkneve_read.ended bjorkneve.bjorkneve_read.Reads.requires
+pub bjorkneve_read_free : AsksNothing bjorkneve.bjorkneve_read.ended bjorkneve_proofs.bjorkneve_read.Reads.requires
 bjorkneve_read_free _ _ _ = refl
 
-pub bjorkneve_write_free : AsksNothing bjorkneve.bjorkneve_write.ended bjorkneve.bjorkneve_write.Reads.requires
+pub bjorkneve_write_free : AsksNothing bjorkneve.bjorkneve_write.ended bjorkneve_proofs.bjorkneve_write.Reads.requires
 bjorkneve_write_free _ _ _ = refl
 
-pub bjorkneve_load_free : AsksNothing bjorkneve.bjorkneve_load.ended bjorkneve.bjorkneve_load.Reads.requires
+pub bjorkneve_load_free : AsksNothing bjorkneve.bjorkneve_load.ended bjorkneve_proofs.bjorkneve_load.Reads.requires
 bjorkneve_load_free _ _ _ = refl
 
-pub bjorkneve_layout_free : AsksNothing bjorkneve.bjorkneve_layout.ended bjorkneve.bjorkneve_layout.Reads.requires
+pub bjorkneve_layout_free : AsksNothing bjorkneve.bjorkneve_layout.ended bjorkneve_proofs.bjorkneve_layout.Reads.requires
 bjorkneve_layout_free _ _ _ = refl
 
-pub bjorkneve_verdict_free : AsksNothing bjorkneve.bjorkneve_verdict.ended bjorkneve.bjorkneve_verdict.Reads.requires
+pub bjorkneve_verdict_free : AsksNothing bjorkneve.bjorkneve_verdict.ended bjorkneve_proofs.bjorkneve_verdict.Reads.requires
 bjorkneve_verdict_free _ _ _ = refl
 
-pub bjorkneve_find_free : AsksNothing bjorkneve.bjorkneve_find.ended bjorkneve.bjorkneve_find.Reads.requires
+pub bjorkneve_find_free : AsksNothing bjorkneve.bjorkneve_find.ended bjorkneve_proofs.bjorkneve_find.Reads.requires
 bjorkneve_find_free _ _ _ = refl
 
-pub bjorkneve_build_free : AsksNothing bjorkneve.bjorkneve_build.ended bjorkneve.bjorkneve_build.Reads.requires
+pub bjorkneve_build_free : AsksNothing bjorkneve.bjorkneve_build.ended bjorkneve_proofs.bjorkneve_build.Reads.requires
 bjorkneve_build_free _ _ _ = refl
 
-pub bjorkneve_reading_free : AsksNothing bjorkneve.bjorkneve_reading.ended bjorkneve.bjorkneve_reading.Reads.requires
+pub bjorkneve_reading_free : AsksNothing bjorkneve.bjorkneve_reading.ended bjorkneve_proofs.bjorkneve_reading.Reads.requires
 bjorkneve_reading_free _ _ _ = refl
 
-pub bjorkneve_panel_power_on_free : AsksNothing bjorkneve.bjorkneve_panel_power_on.ended bjorkneve.bjorkneve_panel_power_on.Reads.requires
+pub bjorkneve_panel_power_on_free : AsksNothing bjorkneve.bjorkneve_panel_power_on.ended bjorkneve_proofs.bjorkneve_panel_power_on.Reads.requires
 bjorkneve_panel_power_on_free _ _ _ = refl
 
-pub bjorkneve_panel_load_free : AsksNothing bjorkneve.bjorkneve_panel_load.ended bjorkneve.bjorkneve_panel_load.Reads.requires
+pub bjorkneve_panel_load_free : AsksNothing bjorkneve.bjorkneve_panel_load.ended bjorkneve_proofs.bjorkneve_panel_load.Reads.requires
 bjorkneve_panel_load_free _ _ _ = refl
 
-pub bjorkneve_panel_begin_free : AsksNothing bjorkneve.bjorkneve_panel_begin.ended bjorkneve.bjorkneve_panel_begin.Reads.requires
+pub bjorkneve_panel_begin_free : AsksNothing bjorkneve.bjorkneve_panel_begin.ended bjorkneve_proofs.bjorkneve_panel_begin.Reads.requires
 bjorkneve_panel_begin_free _ _ _ = refl
 
-pub bjorkneve_panel_line_free : AsksNothing bjorkneve.bjorkneve_panel_line.ended bjorkneve.bjorkneve_panel_line.Reads.requires
+pub bjorkneve_panel_line_free : AsksNothing bjorkneve.bjorkneve_panel_line.ended bjorkneve_proofs.bjorkneve_panel_line.Reads.requires
 bjorkneve_panel_line_free _ _ _ = refl
 
-pub bjorkneve_panel_end_free : AsksNothing bjorkneve.bjorkneve_panel_end.ended bjorkneve.bjorkneve_panel_end.Reads.requires
+pub bjorkneve_panel_end_free : AsksNothing bjorkneve.bjorkneve_panel_end.ended bjorkneve_proofs.bjorkneve_panel_end.Reads.requires
 bjorkneve_panel_end_free _ _ _ = refl
 
-pub bjorkneve_panel_status_free : AsksNothing bjorkneve.bjorkneve_panel_status.ended bjorkneve.bjorkneve_panel_status.Reads.requires
+pub bjorkneve_panel_status_free : AsksNothing bjorkneve.bjorkneve_panel_status.ended bjorkneve_proofs.bjorkneve_panel_status.Reads.requires
 bjorkneve_panel_status_free _ _ _ = refl
 
-pub bjorkneve_panel_reading_free : AsksNothing bjorkneve.bjorkneve_panel_reading.ended bjorkneve.bjorkneve_panel_reading.Reads.requires
+pub bjorkneve_panel_reading_free : AsksNothing bjorkneve.bjorkneve_panel_reading.ended bjorkneve_proofs.bjorkneve_panel_reading.Reads.requires
 bjorkneve_panel_reading_free _ _ _ = refl
 
-pub bjorkneve_panel_gauge_free : AsksNothing bjorkneve.bjorkneve_panel_gauge.ended bjorkneve.bjorkneve_panel_gauge.Reads.requires
+pub bjorkneve_panel_gauge_free : AsksNothing bjorkneve.bjorkneve_panel_gauge.ended bjorkneve_proofs.bjorkneve_panel_gauge.Reads.requires
 bjorkneve_panel_gauge_free _ _ _ = refl
 
 -- display
-pub show_free : AsksNothing display.show.ended display.show.Reads.requires
+pub show_free : AsksNothing display.show.ended display_proofs.show.Reads.requires
 show_free _ _ _ = refl

@@ -4,12 +4,12 @@ use Rattle.laws.specs.Bytes.{Bytes}
 use Rattle.calls.specs.Call.{Call, shared, next}
 use Rattle.calls.specs.CallLaws.{lent_bytes}
 use Rattle.calls.specs.LendLaws.{lendable}
-use Rattle.hexread.proofs as hexread
-use Rattle.hexwrite.proofs as hexwrite
-use Rattle.layout.proofs as layout
-use Rattle.finder.proofs as finder
-use Rattle.builder.proofs as builder
-use Rattle.panel.proofs as panel
+use Rattle.hexread.specs.contracts as hexread
+use Rattle.hexwrite.specs.contracts as hexwrite
+use Rattle.layout.specs.contracts as layout
+use Rattle.finder.specs.contracts as finder
+use Rattle.builder.specs.contracts as builder
+use Rattle.panel.specs.contracts as panel
 
 pub written_bytes : (call : Call hexwrite.write.signature) → Bytes call.arguments.0.now
 written_bytes call = lent_bytes call (shared 0 tt)

@@ -1,6 +1,6 @@
 -- An image can be laid out anew: the builder does it, wherever sections and bytes keep to their limits; and there is one way only.
 use Rattle.std.specs.Prelude.{true, false, cond, List, [], ◌∷◌, ◌⊎◌, ◌≡◌, refl, ℕ, ◌+◌, ◌*◌, ◌≤◌, eqb, length}
-use Rattle.std.proofs.Common.{inl, inr, sym, ap, ◌∙◌, le_refl, arith, eqb-true, eq-eqb}
+use Rattle.std.proofs.Common.{inl, inr, subst, sym, ap, ◌∙◌, le_refl, arith, eqb-true, eq-eqb}
 use Rattle.std.proofs.Math.Option.{Option, none, some}
 use Rattle.paper.specs.Words.{Not}
 use Rattle.paper.specs.Image.{HasBody}
@@ -37,6 +37,7 @@ found_among kind body (s ∷ ss) e =
 
 among_held : (kind : ℕ) (body : List ℕ) (ss : List Section) → Among kind body ss → holds kind ss ≡ true
 unfolding body_of
+among_held kind body [] a = elim a [ ]
 among_held kind body (s ∷ ss) (inl (e, f)) = rw (eq-eqb kind s.kind e)
 among_held kind body (s ∷ ss) (inr a) = decide (eqb kind s.kind) (λ e. rw e) (λ e. rw e (among_held kind body ss a))
 
@@ -50,10 +51,11 @@ not_held kind ss n = by (body_of kind ss) refl
 
 pub among_found : (kind : ℕ) (body : List ℕ) (ss : List Section) → EachOnce ss → Among kind body ss → body_of kind ss ≡ some body
 unfolding body_of
+among_found kind body [] once a = elim a [ ]
 among_found kind body (s ∷ ss) once (inl (e, f)) = rw (eq-eqb kind s.kind e, f)
 among_found kind body (s ∷ ss) once (inr a) =
     decide (eqb kind s.kind)
-    (λ e. absurd (once.0 (body, rw (eqb-true kind s.kind e) at a)))
+    (λ e. absurd (once.0 (body, subst (λ (k : ℕ). Among k body ss) (eqb-true kind s.kind e) a)))
     (λ e. rw e (among_found kind body ss once.1 a))
 
 once_tested : (ss : List Section) → EachOnce ss → EachKindOnce ss

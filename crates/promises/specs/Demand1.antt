@@ -32,15 +32,24 @@ use Rattle.panel.specs.Levels.{is_level}
 use Rattle.panel.specs.Verdict.{verdict_of}
 use Rattle.panel.specs.Reading.{reading_of}
 use Rattle.panel.specs.Load.{load_text}
-use Rattle.hexread.proofs as hexread
-use Rattle.hexwrite.proofs as hexwrite
-use Rattle.layout.proofs as layout
-use Rattle.finder.proofs as finder
-use Rattle.builder.proofs as builder
-use Rattle.sets.proofs as sets
-use Rattle.bodies.proofs as bodies
-use Rattle.panel.proofs as panel
-use Rattle.bjorkneve.proofs as bjorkneve
+use Rattle.hexread.specs.contracts as hexread
+use Rattle.hexread.proofs as hexread_proofs
+use Rattle.hexwrite.specs.contracts as hexwrite
+use Rattle.hexwrite.proofs as hexwrite_proofs
+use Rattle.layout.specs.contracts as layout
+use Rattle.layout.proofs as layout_proofs
+use Rattle.finder.specs.contracts as finder
+use Rattle.finder.proofs as finder_proofs
+use Rattle.builder.specs.contracts as builder
+use Rattle.builder.proofs as builder_proofs
+use Rattle.sets.specs.contracts as sets
+use Rattle.sets.proofs as sets_proofs
+use Rattle.bodies.specs.contracts as bodies
+use Rattle.bodies.proofs as bodies_proofs
+use Rattle.panel.specs.contracts as panel
+use Rattle.panel.proofs as panel_proofs
+use Rattle.bjorkneve.specs.contracts as bjorkneve
+use Rattle.bjorkneve.proofs as bjorkneve_proofs
 use Rattle.agreement.specs.TableLaws.{judged_alone, Single, row_once, refused_exactly, accepted_exactly}
 use Rattle.agreement.specs.LayoutAgrees.{layout_gives}
 use Rattle.agreement.specs.BodiesAgree.{identity_judges, set_judges, trim_judges, note_judges}
@@ -53,14 +62,14 @@ use Rattle.promises.specs.ZerosLaws.{refused_zeros, part_starts, zeros_refused}
 -- ---- every text
 
 -- Reading a text answers its image, or the number and line of its first fault.
-pub read_answers : EveryCall hexread.read.ended hexread.read.Reads.Learnt
+pub read_answers : EveryCall hexread.read.ended hexread_proofs.read.Reads.Learnt
     (λ call r b. AnswersRead call.arguments.0.now call.arguments.1.0.now (filled_number r) (filled_detail r) (filled_length r) b.1.0)
 read_answers call r b learnt =
     let text = call.arguments.0.now in
     let before = call.arguments.1.0.now in
     fills_answer (read_text (length before) text) (read_refuses (length before) text) (read_results (length before) text) before b.1.0 r learnt
 
-pub bjorkneve_read_answers : EveryCall bjorkneve.bjorkneve_read.ended bjorkneve.bjorkneve_read.Reads.Learnt
+pub bjorkneve_read_answers : EveryCall bjorkneve.bjorkneve_read.ended bjorkneve_proofs.bjorkneve_read.Reads.Learnt
     (λ call r b. AnswersRead call.arguments.0.now call.arguments.1.0.now r.number r.detail r.length b.1.0)
 bjorkneve_read_answers call r b learnt =
     let text = call.arguments.0.now in
@@ -68,7 +77,7 @@ bjorkneve_read_answers call r b learnt =
     fills_for_c_answer (read_text (length before) text) (read_refuses (length before) text) (read_results (length before) text) before b.1.0 r learnt
 
 -- A load answers the image that the text says and the panel accepts, or the text's refusal, or the panel's on that image.
-pub load_answers : EveryCall panel.load.ended panel.load.Reads.Learnt
+pub load_answers : EveryCall panel.load.ended panel_proofs.load.Reads.Learnt
     (λ call r b.
     AnswersLoad call.arguments.1.0 call.arguments.0.now call.arguments.1.1.0.now
     (filled_number r) (filled_detail r) (filled_length r) b.1.1.0)
@@ -78,7 +87,7 @@ load_answers call r b learnt =
     let before = call.arguments.1.1.0.now in
     fills_answer (load_text level (length before) text) (load_refuses level text before) (load_results level text before) before b.1.1.0 r learnt
 
-pub bjorkneve_load_answers : EveryCall bjorkneve.bjorkneve_load.ended bjorkneve.bjorkneve_load.Reads.Learnt
+pub bjorkneve_load_answers : EveryCall bjorkneve.bjorkneve_load.ended bjorkneve_proofs.bjorkneve_load.Reads.Learnt
     (λ call r b.
     AnswersLoad call.arguments.1.0 call.arguments.0.now call.arguments.1.1.0.now
     r.number r.detail r.length b.1.1.0)
@@ -91,7 +100,7 @@ bjorkneve_load_answers call r b learnt =
 -- ---- every image
 
 -- Writing an image answers its text, or 4 or 17.
-pub write_answers : EveryCall hexwrite.write.ended hexwrite.write.Reads.Learnt
+pub write_answers : EveryCall hexwrite.write.ended hexwrite_proofs.write.Reads.Learnt
     (λ call r b. AnswersWrite call.arguments.0.now call.arguments.1.0.now (filled_number r) (filled_detail r) (filled_length r) b.1.0)
 write_answers call r b learnt =
     let image = call.arguments.0.now in
@@ -99,7 +108,7 @@ write_answers call r b learnt =
     fills_answer (write_image (length before) image) (write_refuses (length before) image)
     (write_results (length before) image (lent_bytes call (shared 0 tt))) before b.1.0 r learnt
 
-pub bjorkneve_write_answers : EveryCall bjorkneve.bjorkneve_write.ended bjorkneve.bjorkneve_write.Reads.Learnt
+pub bjorkneve_write_answers : EveryCall bjorkneve.bjorkneve_write.ended bjorkneve_proofs.bjorkneve_write.Reads.Learnt
     (λ call r b. AnswersWrite call.arguments.0.now call.arguments.1.0.now r.number r.detail r.length b.1.0)
 bjorkneve_write_answers call r b learnt =
     let image = call.arguments.0.now in
@@ -108,27 +117,27 @@ bjorkneve_write_answers call r b learnt =
     (write_results (length before) image (lent_bytes call (shared 0 tt))) before b.1.0 r learnt
 
 -- A layout is good, or refused by the first of 5 to 8.
-pub layout_answers : EveryCall layout.layout.ended layout.layout.Reads.Learnt
+pub layout_answers : EveryCall layout.layout.ended layout_proofs.layout.Reads.Learnt
     (λ call r b. Tells (layout_table call.arguments.0.now) (verdict_number r) (verdict_detail r))
 layout_answers call r b learnt =
     let image = call.arguments.0.now in
     rw learnt (verdict_tells (layout_table image) refl (layout_verdict image) (layout_gives image))
 
-pub bjorkneve_layout_answers : EveryCall bjorkneve.bjorkneve_layout.ended bjorkneve.bjorkneve_layout.Reads.Learnt
+pub bjorkneve_layout_answers : EveryCall bjorkneve.bjorkneve_layout.ended bjorkneve_proofs.bjorkneve_layout.Reads.Learnt
     (λ call r b. Tells (layout_table call.arguments.0.now) r.number r.detail)
 bjorkneve_layout_answers call r b learnt =
     let image = call.arguments.0.now in
     rw learnt (verdict_tells (layout_table image) refl (layout_verdict image) (layout_gives image))
 
 -- A panel accepts an image, or refuses it by the first of 20, 5 to 13, 15, 16.
-pub verdict_answers : EveryCall panel.verdict.ended panel.verdict.Reads.Learnt
+pub verdict_answers : EveryCall panel.verdict.ended panel_proofs.verdict.Reads.Learnt
     (λ call r b. Tells (verdict_table call.arguments.1.0 call.arguments.0.now) (verdict_number r) (verdict_detail r))
 verdict_answers call r b learnt =
     let image = call.arguments.0.now in
     let level = call.arguments.1.0 in
     rw learnt (verdict_tells (verdict_table level image) refl (verdict_of level image) (verdict_gives level image))
 
-pub bjorkneve_verdict_answers : EveryCall bjorkneve.bjorkneve_verdict.ended bjorkneve.bjorkneve_verdict.Reads.Learnt
+pub bjorkneve_verdict_answers : EveryCall bjorkneve.bjorkneve_verdict.ended bjorkneve_proofs.bjorkneve_verdict.Reads.Learnt
     (λ call r b. Tells (verdict_table call.arguments.1.0 call.arguments.0.now) r.number r.detail)
 bjorkneve_verdict_answers call r b learnt =
     let image = call.arguments.0.now in
@@ -136,41 +145,41 @@ bjorkneve_verdict_answers call r b learnt =
     rw learnt (verdict_tells (verdict_table level image) refl (verdict_of level image) (verdict_gives level image))
 
 -- A kind is found, and where its body stands, or it is not there. The part that the finder gives back is the caller's own memory.
-pub has_answers : EveryCall finder.has.ended finder.has.Reads.Learnt
+pub has_answers : EveryCall finder.has.ended finder_proofs.has.Reads.Learnt
     (λ call r b. (r ≡ true) ↔ (NoneGiven (layout_table call.arguments.0.now) × HasKind call.arguments.0.now call.arguments.1.0))
 has_answers call r b learnt = has_answer call.arguments.0.now call.arguments.1.0 r learnt
 
-pub find_answers : EveryCall finder.find.ended finder.find.Reads.Learnt (λ call r b. FindsPart call.arguments.0 r call.arguments.1.0)
+pub find_answers : EveryCall finder.find.ended finder_proofs.find.Reads.Learnt (λ call r b. FindsPart call.arguments.0 r call.arguments.1.0)
 find_answers call r b learnt = finds_part call.arguments.0 r call.arguments.1.0 learnt
 
-pub place_answers : EveryCall finder.place_of.ended finder.place_of.Reads.Learnt
+pub place_answers : EveryCall finder.place_of.ended finder_proofs.place_of.Reads.Learnt
     (λ call r b. AnswersFind call.arguments.0.now call.arguments.1.0 (place_for_c r).there (place_for_c r).offset (place_for_c r).length)
 place_answers call r b learnt = find_answer call.arguments.0.now call.arguments.1.0 r learnt
 
-pub bjorkneve_find_answers : EveryCall bjorkneve.bjorkneve_find.ended bjorkneve.bjorkneve_find.Reads.Learnt
+pub bjorkneve_find_answers : EveryCall bjorkneve.bjorkneve_find.ended bjorkneve_proofs.bjorkneve_find.Reads.Learnt
     (λ call r b. AnswersFind call.arguments.0.now call.arguments.1.0 r.there r.offset r.length)
 bjorkneve_find_answers call r b learnt = rw learnt (find_answer call.arguments.0.now call.arguments.1.0 _ refl)
 
 -- A body is right, or refused by its own number with detail 0: 11 an identity, 15 a trim, 16 a note; a set by the number that the caller names.
-pub identity_answers : EveryCall bodies.identity_verdict.ended bodies.identity_verdict.Reads.Learnt
+pub identity_answers : EveryCall bodies.identity_verdict.ended bodies_proofs.identity_verdict.Reads.Learnt
     (λ call r b. Tells (row 11 0 (IdentityWrong call.arguments.0.now) ∷ []) (verdict_number r) (verdict_detail r))
 identity_answers call r b learnt =
     let body = call.arguments.0.now in
     rw learnt (verdict_tells (row 11 0 (IdentityWrong body) ∷ []) refl (identity_verdict body) (judged_alone _ (identity_verdict body) (identity_judges body)))
 
-pub trim_answers : EveryCall bodies.trim_verdict.ended bodies.trim_verdict.Reads.Learnt
+pub trim_answers : EveryCall bodies.trim_verdict.ended bodies_proofs.trim_verdict.Reads.Learnt
     (λ call r b. Tells (row 15 0 (TrimWrong call.arguments.0.now) ∷ []) (verdict_number r) (verdict_detail r))
 trim_answers call r b learnt =
     let body = call.arguments.0.now in
     rw learnt (verdict_tells (row 15 0 (TrimWrong body) ∷ []) refl (trim_verdict body) (judged_alone _ (trim_verdict body) (trim_judges body)))
 
-pub note_answers : EveryCall bodies.note_verdict.ended bodies.note_verdict.Reads.Learnt
+pub note_answers : EveryCall bodies.note_verdict.ended bodies_proofs.note_verdict.Reads.Learnt
     (λ call r b. Tells (row 16 0 (NoteWrong call.arguments.0.now) ∷ []) (verdict_number r) (verdict_detail r))
 note_answers call r b learnt =
     let body = call.arguments.0.now in
     rw learnt (verdict_tells (row 16 0 (NoteWrong body) ∷ []) refl (note_verdict body) (judged_alone _ (note_verdict body) (note_judges body)))
 
-pub set_answers : EveryCall sets.set_verdict.ended sets.set_verdict.Reads.Learnt
+pub set_answers : EveryCall sets.set_verdict.ended sets_proofs.set_verdict.Reads.Learnt
     (λ call r b.
     let rows = row call.arguments.1.0 0 (SetWrong call.arguments.0.now) ∷ [] in
     ((r ≡ Accepted) ↔ NoneGiven rows) × ((r ≡ NotAccepted (refusal call.arguments.1.0 0)) ↔ FirstGiven rows call.arguments.1.0 0))
@@ -199,7 +208,7 @@ build_answers call r b learnt =
     (build_results (length before) (kinds_of lines) (lengths_of lines) bodies (lent_bytes call (next (shared 1 tt))))
     before b.1.1.0 r (rw (given_again lines) learnt))
 
-pub build_from_numbers_answers : EveryCall builder.build_from_numbers.ended builder.build_from_numbers.Reads.Learnt
+pub build_from_numbers_answers : EveryCall builder.build_from_numbers.ended builder_proofs.build_from_numbers.Reads.Learnt
     (λ call r b.
     AnswersBuild call.arguments.0.now call.arguments.1.0.now call.arguments.1.1.0.now call.arguments.1.1.1.0.now
     (filled_number r) (filled_detail r) (filled_length r) b.1.1.1.0)
@@ -211,7 +220,7 @@ build_from_numbers_answers call r b learnt =
     fills_answer (build_image (length before) (lines_given kinds lengths) bodies) (build_refuses (length before) kinds lengths bodies)
     (build_results (length before) kinds lengths bodies (lent_bytes call (next (next (shared 2 tt))))) before b.1.1.1.0 r learnt
 
-pub bjorkneve_build_answers : EveryCall bjorkneve.bjorkneve_build.ended bjorkneve.bjorkneve_build.Reads.Learnt
+pub bjorkneve_build_answers : EveryCall bjorkneve.bjorkneve_build.ended bjorkneve_proofs.bjorkneve_build.Reads.Learnt
     (λ call r b.
     AnswersBuild call.arguments.0.now call.arguments.1.0.now call.arguments.1.1.0.now call.arguments.1.1.1.0.now
     r.number r.detail r.length b.1.1.1.0)
@@ -226,13 +235,13 @@ bjorkneve_build_answers call r b learnt =
 -- ---- every count
 
 -- A reading is shown, or refused as the verdict is, or by the first of 21 to 26.
-pub reading_answers : EveryCall panel.reading.ended panel.reading.Reads.Learnt
+pub reading_answers : EveryCall panel.reading.ended panel_proofs.reading.Reads.Learnt
     (λ call r b.
     AnswersReading call.arguments.1.0 call.arguments.0.now (on_paper call.arguments.1.1.0)
     (answer_number r) (answer_detail r) (answer_pressure r) (answer_temperature r) (answer_unit r) (answer_mark r))
 reading_answers call r b learnt = reading_answer call.arguments.1.0 call.arguments.0.now call.arguments.1.1.0 r learnt
 
-pub bjorkneve_reading_answers : EveryCall bjorkneve.bjorkneve_reading.ended bjorkneve.bjorkneve_reading.Reads.Learnt
+pub bjorkneve_reading_answers : EveryCall bjorkneve.bjorkneve_reading.ended bjorkneve_proofs.bjorkneve_reading.Reads.Learnt
     (λ call r b.
     AnswersReading call.arguments.1.0 call.arguments.0.now
     (record {

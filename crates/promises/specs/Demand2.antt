@@ -41,10 +41,12 @@ use Rattle.reading.specs.declared.Reading.{Reading}
 use Rattle.reading.specs.declared.Answer.TheVariants.{Shown, Refused}
 use Rattle.panel.specs.Verdict.{verdict_of}
 use Rattle.panel.specs.Reading.{reading_of}
-use Rattle.hexwrite.proofs as hexwrite
-use Rattle.builder.proofs as builder
-use Rattle.sets.proofs as sets
-use Rattle.bodies.proofs as bodies
+use Rattle.hexwrite.specs.contracts as hexwrite
+use Rattle.builder.specs.contracts as builder
+use Rattle.sets.specs.contracts as sets
+use Rattle.sets.proofs as sets_proofs
+use Rattle.bodies.specs.contracts as bodies
+use Rattle.bodies.proofs as bodies_proofs
 use Rattle.agreement.specs.FieldsAgree.{number_same, signed_same}
 use Rattle.agreement.specs.WriterAgrees.{write_refused_exactly, written_exactly}
 use Rattle.agreement.specs.LayoutAgrees.{layout_refused_exactly, layout_accepted_exactly}
@@ -174,7 +176,7 @@ reading_by_manual = shows_by_manual
 -- ---- what a body says
 
 -- An identity's fields, a trim's, a set's and its coefficients are read at the places that document 01 names.
-pub identity_read : EveryCall bodies.read_identity.ended bodies.read_identity.Reads.Learnt
+pub identity_read : EveryCall bodies.read_identity.ended bodies_proofs.read_identity.Reads.Learnt
     (λ call r b.
     let body = call.arguments.0.now in
     (r.serial ≡ number 4 body 0) × (r.year ≡ number 2 body 4) × (r.month ≡ number 1 body 6) × (r.day ≡ number 1 body 7)
@@ -182,14 +184,14 @@ pub identity_read : EveryCall bodies.read_identity.ended bodies.read_identity.Re
 unfolding identity_of
 identity_read call r b learnt = rw (learnt, number_same, signed_same) (refl, refl, refl, refl, refl, refl, refl, refl)
 
-pub trim_read : EveryCall bodies.read_trim.ended bodies.read_trim.Reads.Learnt
+pub trim_read : EveryCall bodies.read_trim.ended bodies_proofs.read_trim.Reads.Learnt
     (λ call r b.
     let body = call.arguments.0.now in
     (r.unit ≡ number 1 body 0) × (r.span ≡ number 4 body 4) × (r.zero ≡ signed 8 body 8))
 unfolding trim_of
 trim_read call r b learnt = rw (learnt, number_same, signed_same) (refl, refl, refl)
 
-pub set_read : EveryCall sets.read_prescales.ended sets.read_prescales.Reads.Learnt
+pub set_read : EveryCall sets.read_prescales.ended sets_proofs.read_prescales.Reads.Learnt
     (λ call r b.
     let body = call.arguments.0.now in
     (r.pressure.order ≡ number 1 body 2) × (r.pressure.multiplier ≡ number 4 body 4) × (r.pressure.offset ≡ number 8 body 8)
@@ -198,7 +200,7 @@ unfolding prescales_of
 set_read call r b learnt = rw (learnt, number_same) (refl, refl, refl, refl, refl, refl)
 
 -- row r is A0, A1, .. or B0, B1, ..; absent places are 0
-pub grid_read : EveryCall sets.read_grid.ended sets.read_grid.Reads.Learnt
+pub grid_read : EveryCall sets.read_grid.ended sets_proofs.read_grid.Reads.Learnt
     (λ call r b.
     let body = call.arguments.0.now in
     Not (SetWrong body) → (row place : ℕ) → row < 5 → place < 5 → get_or (get_or r row []) place (pos 0) ≡ coefficient body row place)

@@ -27,7 +27,7 @@ use Rattle.reading.specs.declared.Answer.TheVariants.{Shown, Refused}
 use Rattle.panel.specs.Verdict.{verdict_of}
 use Rattle.panel.specs.Reading.{reading_of}
 use Rattle.panel.specs.Load.{load_text}
-use Rattle.hexwrite.proofs as hexwrite
+use Rattle.hexwrite.specs.contracts as hexwrite
 use Rattle.agreement.specs.KindsAgree.{none_found, found_is_had}
 use Rattle.agreement.specs.VerdictAgrees.{verdict_accepted_exactly, accepted_readable}
 use Rattle.image.specs.Merged.{merged, IsKind}
@@ -99,24 +99,29 @@ further_high = are_further high_sections new unknown
     new : (kind : ℕ) → HasSection kind high_sections → body_of kind (sections untrimmed_image) ≡ none
     new kind (body, inl (e, b)) = rw (e, untrimmed_sections)
     new kind (body, inr (inl (e, b))) = rw (e, untrimmed_sections)
+    new kind (body, inr (inr h)) = elim h [ ]
 
     unknown : (kind : ℕ) → HasSection kind high_sections → Not (Knows 2 kind)
     unknown kind (body, inl (e, b)) = unknown_2 kind (omega arith) (λ n. omega arith)
     unknown kind (body, inr (inl (e, b))) = unknown_2 kind (omega arith) (λ n. omega arith)
+    unknown kind (body, inr (inr h)) = elim h [ ]
 
 all_high : AllHigh high_sections
 all_high kind (body, inl (e, b)) = omega arith
 all_high kind (body, inr (inl (e, b))) = omega arith
+all_high kind (body, inr (inr h)) = elim h [ ]
 
 once_high : EachOnce high_sections
 once_high = (differ, ((λ (body, a). absurd a), tt))
   where
     differ : Not (HasSection 200 (record { kind = 130; body = [] } ∷ []))
     differ (body, inl (e, b)) = omega arith
+    differ (body, inr h) = elim h [ ]
 
 kinds_high : (kind : ℕ) → HasSection kind high_sections → IsKind kind
 kinds_high kind (body, inl (e, b)) = (omega arith, omega arith)
 kinds_high kind (body, inr (inl (e, b))) = (omega arith, omega arith)
+kinds_high kind (body, inr (inr h)) = elim h [ ]
 
 abbrev anew_high : List ℕ
 anew_high = image_of (merged (sections untrimmed_image) high_sections)
@@ -144,11 +149,13 @@ further_mixed = are_further mixed_sections new unknown
     new kind (body, inl (e, b)) = rw (e, untrimmed_sections)
     new kind (body, inr (inl (e, b))) = rw (e, untrimmed_sections)
     new kind (body, inr (inr (inl (e, b)))) = rw (e, untrimmed_sections)
+    new kind (body, inr (inr (inr h))) = elim h [ ]
 
     unknown : (kind : ℕ) → HasSection kind mixed_sections → Not (Knows 2 kind)
     unknown kind (body, inl (e, b)) = unknown_2 kind (omega arith) (λ n. omega arith)
     unknown kind (body, inr (inl (e, b))) = unknown_2 kind (omega arith) (λ n. omega arith)
     unknown kind (body, inr (inr (inl (e, b)))) = unknown_2 kind (omega arith) (λ n. omega arith)
+    unknown kind (body, inr (inr (inr h))) = elim h [ ]
 
 once_mixed : EachOnce mixed_sections
 once_mixed = (first, (second, ((λ (body, a). absurd a), tt)))
@@ -156,14 +163,17 @@ once_mixed = (first, (second, ((λ (body, a). absurd a), tt)))
     first : Not (HasSection 200 (record { kind = 127; body = [] } ∷ record { kind = 5; body = 3 ∷ [] } ∷ []))
     first (body, inl (e, b)) = omega arith
     first (body, inr (inl (e, b))) = omega arith
+    first (body, inr (inr h)) = elim h [ ]
 
     second : Not (HasSection 127 (record { kind = 5; body = 3 ∷ [] } ∷ []))
     second (body, inl (e, b)) = omega arith
+    second (body, inr h) = elim h [ ]
 
 kinds_mixed : (kind : ℕ) → HasSection kind mixed_sections → IsKind kind
 kinds_mixed kind (body, inl (e, b)) = (omega arith, omega arith)
 kinds_mixed kind (body, inr (inl (e, b))) = (omega arith, omega arith)
 kinds_mixed kind (body, inr (inr (inl (e, b)))) = (omega arith, omega arith)
+kinds_mixed kind (body, inr (inr (inr h))) = elim h [ ]
 
 abbrev anew_mixed : List ℕ
 anew_mixed = image_of (merged (sections untrimmed_image) mixed_sections)
@@ -181,6 +191,7 @@ lowest_five = (((3 ∷ [], inr (inr (inl (refl, refl)))), omega arith), above)
     above j h ((body, inl (e, b)), low) = omega arith
     above j h ((body, inr (inl (e, b))), low) = omega arith
     above j h ((body, inr (inr (inl (e, b)))), low) = omega arith
+    above j h ((body, inr (inr (inr k))), low) = elim k [ ]
 
 pub low_met : verdict_of 2 anew_mixed ≡ NotAccepted (refusal 9 5)
 low_met = low_verdict 2 untrimmed_image mixed_sections anew_mixed further_mixed anew_mixed_lem 5 lowest_five

@@ -1,5 +1,5 @@
 -- The panel's calls: each is the event that its name says, by its own contract, and answers in document 01's numbers.
-use Rattle.std.specs.Prelude.{List, [], ◌≡◌, ℕ}
+use Rattle.std.specs.Prelude.{List, ◌≡◌, ℕ}
 use Rattle.std.proofs.Math.Path.{refl}
 use Rattle.paper.specs.Fields.{number}
 use Rattle.paper.specs.Table.{NoneGiven}
@@ -15,7 +15,8 @@ use Rattle.lamp.specs.Events.{powered_on}
 use Rattle.lamp.specs.Questions.{gauge_told}
 use Rattle.lamp.specs.InNumbers.{gauge_number, gauge_serial, gauge_year, gauge_month, gauge_day}
 use Rattle.lamp.specs.ForC.{gauge_for_c}
-use Rattle.bjorkneve.proofs as bjorkneve
+use Rattle.bjorkneve.specs.contracts as bjorkneve
+use Rattle.bjorkneve.proofs as bjorkneve_proofs
 use Rattle.agreement.specs.FieldsAgree.{number_same}
 use Rattle.agreement.specs.KindsAgree.{had_is_found}
 use Rattle.agreement.specs.VerdictAgrees.{verdict_accepted_exactly, accepted_readable}
@@ -25,35 +26,35 @@ use Rattle.promises.specs.History.{loads, begins, takes, ends, after}
 
 -- ---- events
 
-pub power_on_starts : EveryCall bjorkneve.bjorkneve_panel_power_on.ended bjorkneve.bjorkneve_panel_power_on.Reads.Learnt
+pub power_on_starts : EveryCall bjorkneve.bjorkneve_panel_power_on.ended bjorkneve_proofs.bjorkneve_panel_power_on.Reads.Learnt
     (λ call r b. standing r b.1.0 ≡ powered_on call.arguments.0 call.arguments.1.1.0 call.arguments.1.0.now)
 power_on_starts call r b learnt = learnt
 
-pub load_steps : EveryCall bjorkneve.bjorkneve_panel_load.ended bjorkneve.bjorkneve_panel_load.Reads.Learnt
+pub load_steps : EveryCall bjorkneve.bjorkneve_panel_load.ended bjorkneve_proofs.bjorkneve_panel_load.Reads.Learnt
     (λ call r b. standing r b.1.1.0 ≡ after (loads call.arguments.1.0.now) (standing call.arguments.0 call.arguments.1.1.0.now))
 load_steps call r b learnt = learnt
 
-pub begin_steps : EveryCall bjorkneve.bjorkneve_panel_begin.ended bjorkneve.bjorkneve_panel_begin.Reads.Learnt
+pub begin_steps : EveryCall bjorkneve.bjorkneve_panel_begin.ended bjorkneve_proofs.bjorkneve_panel_begin.Reads.Learnt
     (λ call r b. standing r b.1.0 ≡ after begins (standing call.arguments.0 call.arguments.1.0.now))
 begin_steps call r b learnt = learnt
 
-pub line_steps : EveryCall bjorkneve.bjorkneve_panel_line.ended bjorkneve.bjorkneve_panel_line.Reads.Learnt
+pub line_steps : EveryCall bjorkneve.bjorkneve_panel_line.ended bjorkneve_proofs.bjorkneve_panel_line.Reads.Learnt
     (λ call r b. standing r b.1.1.0 ≡ after (takes call.arguments.1.0.now) (standing call.arguments.0 call.arguments.1.1.0.now))
 line_steps call r b learnt = learnt
 
-pub end_steps : EveryCall bjorkneve.bjorkneve_panel_end.ended bjorkneve.bjorkneve_panel_end.Reads.Learnt
+pub end_steps : EveryCall bjorkneve.bjorkneve_panel_end.ended bjorkneve_proofs.bjorkneve_panel_end.Reads.Learnt
     (λ call r b. standing r b.1.0 ≡ after ends (standing call.arguments.0 call.arguments.1.0.now))
 end_steps call r b learnt = learnt
 
 -- ---- questions
 
 -- The lamp that is told is the panel's.
-pub status_tells_lamp : EveryCall bjorkneve.bjorkneve_panel_status.ended bjorkneve.bjorkneve_panel_status.Reads.Learnt
+pub status_tells_lamp : EveryCall bjorkneve.bjorkneve_panel_status.ended bjorkneve_proofs.bjorkneve_panel_status.Reads.Learnt
     (λ call r b. (r.lamp ≡ is_lit call.arguments.0) × (r.level ≡ call.arguments.0.level))
 status_tells_lamp call r b learnt = rw learnt (refl, refl)
 
 -- A reading is that of the image that the panel holds, or the first refusal.
-pub panel_reading_answers : EveryCall bjorkneve.bjorkneve_panel_reading.ended bjorkneve.bjorkneve_panel_reading.Reads.Learnt
+pub panel_reading_answers : EveryCall bjorkneve.bjorkneve_panel_reading.ended bjorkneve_proofs.bjorkneve_panel_reading.Reads.Learnt
     (λ call r b.
     AnswersReading call.arguments.0.level (image_held (standing call.arguments.0 call.arguments.1.0.now))
     (record {
@@ -78,6 +79,6 @@ module _ (level : ℕ) (image : List ℕ) (accepted : NoneGiven (verdict_table l
       let good = (accepted_readable level image said).good in
       rw (said, had_is_found image 1 good body has, number_same) (refl, refl, refl, refl, refl)
 
-pub gauge_answers : EveryCall bjorkneve.bjorkneve_panel_gauge.ended bjorkneve.bjorkneve_panel_gauge.Reads.Learnt
+pub gauge_answers : EveryCall bjorkneve.bjorkneve_panel_gauge.ended bjorkneve_proofs.bjorkneve_panel_gauge.Reads.Learnt
     (λ call r b. r ≡ gauge_for_c (gauge_told (standing call.arguments.0 call.arguments.1.0.now)))
 gauge_answers call r b learnt = learnt
