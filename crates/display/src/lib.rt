@@ -3,7 +3,7 @@
 
 ghost use Rattle.std.specs.Prelude.{◌≡◌, length};
 ghost use Rattle.io.specs.Counts.{IsPrefixLen};
-ghost use Rattle.refusals.specs.Refusals.{result, held_after};
+ghost use Rattle.refusals.specs.Refusals.{result as result_held, held_after};
 ghost use Rattle.display.specs.Page.{page_of};
 
 // Words and numbers on a page.
@@ -19,9 +19,9 @@ pub const PAGE_SIZE: usize = limits::LAST_LEVEL as usize * LEVEL_ROOM;
 
 // The page's bytes from its start on, as many as the answer says, are what is printed; zeros stand after them.
 pub fn show(text: &[u8], page: &mut [u8; PAGE_SIZE]) -> usize
-    ensures* r_value { λ r. ⌜ r ≡ length (page_of text.now) ⌝ }
-    ensures* page_after { λ _. ⌜ page.new ≡ held_after (length page.old) (result (page_of text.now)) ⌝ }
-    ensures* fact { λ r. ⌜ IsPrefixLen r page.new ⌝ }
+    ensures r_value { result ≡ length (page_of text.now) }
+    ensures page_after { page.new ≡ held_after (length page.old) (result_held (page_of text.now)) }
+    ensures fact { IsPrefixLen result page.new }
 {
     let printed = page::put_page(words::empty(*page), text);
     let bytes = printed.bytes;

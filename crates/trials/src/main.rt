@@ -3,26 +3,27 @@
 
 use display::PAGE_SIZE;
 use limits::LONGEST_SHOWN_TEXT;
+use std::fs::File;
+use std::io;
+use std::io::Read;
 
-fn show_file(name: &[u8]) {
-    io::write_all(1, name);
-    io::write_all(1, b"\n");
-    let file = os::open_read(name);
-    if file < 0 {
-        os::fail(name);
-        return;
-    }
-    let mut text = [0u8; LONGEST_SHOWN_TEXT + 1];
-    let length = io::read_full(file, &mut text);
+const TEXT_ROOM: usize = LONGEST_SHOWN_TEXT + 1;
+
+fn show_file(rt: &HostRuntime, name: &str) -> io::Result<()> {
+    println!(rt; "{name}")?;
+    let file = File::open(rt, name)?;
+    let mut text = [0u8; TEXT_ROOM];
+    let copied = io::copy(&mut file.take(TEXT_ROOM as u64), &mut &mut text[..])?;
+    let length = TEXT_ROOM.min(copied as usize);
     let mut page = [0u8; PAGE_SIZE];
     let end = display::show(&text[..length], &mut page);
-    io::write_all(1, &page[..end]);
+    rt.write_all(&page[..end])
 }
 
-fn main() {
-    show_file(b"contents_only.hex");
-    show_file(b"kind_127.hex");
-    show_file(b"accepted.hex");
-    show_file(b"bytes_65536.hex");
-    show_file(b"bytes_65537.hex");
+fn main(rt: HostRuntime) -> io::Result<()> {
+    show_file(&rt, "contents_only.hex")?;
+    show_file(&rt, "kind_127.hex")?;
+    show_file(&rt, "accepted.hex")?;
+    show_file(&rt, "bytes_65536.hex")?;
+    show_file(&rt, "bytes_65537.hex")
 }
