@@ -7,11 +7,8 @@ returns-then-sum-ge256 c = search (rules, due_other)
 
 pub returns-then-byte_is : goal.returns-then-byte_is
 returns-then-byte_is c =
-    let checked = c in
-    let put = checked.before.before.before.before in
-    let here = put.before.before.before in
-    due_taken_when _ _ _ _ (search rules) (search rules) _ here.address_is.ensures (search rules)
-    _ _ put.put_data-sum.ensures (search rules) _ checked.byte_is.ensures (search rules)
+    due_taken_when _ _ _ _ (search rules) (search rules) _ c.address_is.ensures (search rules)
+    _ _ c.put_data-sum.ensures (search rules) _ c.byte_is.ensures (search rules)
 
 pub returns : goal.returns
 returns c = search (rules, due_other)
