@@ -137,7 +137,7 @@ module _ (lent words : List ℕ) (start page : Page) (s : start ≡ record { byt
   unfolding printed
   page_is = rw s at e
 
-  page_ends : page.end ≡ length words
+  pub page_ends : page.end ≡ length words
   page_ends = omega (arith, length-take page.end page.bytes, ap length page_is)
 
   -- the page once it is cleared after what is printed

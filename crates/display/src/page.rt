@@ -106,6 +106,7 @@ fn put_text_refused(mut page: Page, number: u32, detail: u64) -> Page
     put_refused(page, number, detail)
 }
 
+#[tactic(auto, using(crate::specs::PageLaws::too_long_printed))]
 pub fn put_page(page: Page, given: &[u8]) -> Page
     requires { page.end ≡ 0 }
     ensures result_value { printed result ≡ printed page ++ page_of given.now }
