@@ -1,5 +1,5 @@
 // Kind 1, identity: what it says, and its fields judged in layout order.
-ghost use Rattle.std.specs.Prelude.{◌≡◌, ◌≤◌, drop};
+ghost use Rattle.std.specs.Prelude.{cond, ◌≡◌, ◌≤◌, drop};
 ghost use Rattle.refusals.specs.FieldsVerdict.{fields_verdict};
 ghost use Rattle.bodies.specs.Identity.{identity_of, identity_fields, identity_verdict, leap_year, days_in};
 ghost use Rattle.bodies.specs.MonthLaws.{missing_days};
@@ -76,6 +76,12 @@ fn leap_year(year: u16) -> bool
     year % 4 == 0 && (year % 100 != 0 || year % 400 == 0)
 }
 
+fn february(year: u16) -> u8
+    ensures { result ≡ cond (leap_year year) 29 28 }
+{
+    if leap_year(year) { 29 } else { 28 }
+}
+
 // The leap rule: the days that February lacks of 30. No other month lacks any.
 fn missing_days(year: u16, month: u8) -> u8
     ensures { result ≡ missing_days year month }
@@ -83,7 +89,7 @@ fn missing_days(year: u16, month: u8) -> u8
     if month != 2 {
         return 0;
     }
-    if leap_year(year) { 1 } else { 2 }
+    30 - february(year)
 }
 
 // The odd months have 31 days until July, the even ones from August on.
