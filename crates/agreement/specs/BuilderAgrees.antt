@@ -13,8 +13,8 @@ use Rattle.image.specs.Contents.{line_count, line_place, kind_at, offset_at, len
 use Rattle.image.specs.Layout.{body_at, layout_verdict}
 use Rattle.image.specs.LayoutLaws.{body_within}
 use Rattle.image.specs.Sections.{sections_from, sections, bodies_of, image_of}
-use Rattle.image.specs.SectionsRoundTrip.{image_bodies}
-use Rattle.image.specs.ImageRoundTrip.{sections_count, image_of_sections}
+use Rattle.image.proofs.SectionsRoundTrip.{image_bodies}
+use Rattle.image.proofs.ImageRoundTrip.{sections_count, image_of_sections}
 use Rattle.builder.specs.declared.KindAndLength.{KindAndLength}
 use Rattle.builder.specs.Build.{sections_of, build_verdict, build_image}
 use Rattle.builder.specs.Lines.{lines_given, lines_of, no_line}

@@ -13,7 +13,7 @@ use Rattle.image.specs.Contents.{line_count, offset_at}
 use Rattle.image.specs.Layout.{layout_verdict}
 use Rattle.image.specs.Sections.{sections}
 use Rattle.image.specs.Find.{body_of, where_good, found, offset_from, found_offset}
-use Rattle.image.specs.FindLaws.{found_good, offset_good}
+use Rattle.image.proofs.FindLaws.{found_good, offset_good}
 use Rattle.agreement.specs.FieldsAgree.{number_same}
 use Rattle.agreement.specs.LayoutAgrees.{layout_accepted_exactly}
 use Rattle.agreement.specs.KindsAgree.{given_by_line, line_gives, found_is_had, had_is_found}

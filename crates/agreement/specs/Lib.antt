@@ -18,5 +18,3 @@ pub mod SumLaws
 pub mod ChainLaws
 pub mod SetAgrees
 pub mod ShownAgrees
-pub mod ReadingAgrees
-pub mod ManualAgrees

@@ -8,7 +8,7 @@ use Rattle.refusals.specs.declared.Verdict.TheVariants.{Accepted}
 use Rattle.image.specs.Layout.{layout_verdict}
 use Rattle.image.specs.Sections.{sections}
 use Rattle.image.specs.Find.{body_of}
-use Rattle.image.specs.ImageRoundTrip.{same_bodies_same_image}
+use Rattle.image.proofs.ImageRoundTrip.{same_bodies_same_image}
 use Rattle.agreement.specs.LayoutAgrees.{layout_accepted_exactly}
 use Rattle.agreement.specs.KindsAgree.{found_is_had, had_is_found}
 

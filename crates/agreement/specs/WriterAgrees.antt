@@ -12,7 +12,7 @@ use Rattle.refusals.specs.Refusals.{refusal, result, refused, ask, and_then}
 use Rattle.hextext.specs.Written.{text_of, text_length, write_image}
 use Rattle.hextext.specs.WrittenLaws.{text_length_full, text_length_rest}
 use Rattle.hexformat.specs.Writing.{Written}
-use Rattle.hexformat.specs.WritingLaws.{written_exactly as text-exactly}
+use Rattle.hexformat.proofs.WritingLaws.{written_exactly as text-exactly}
 use Rattle.agreement.specs.TableLaws.{Gives, Single, row_once, judged_alone, gives_then, filling_refused_exactly, filled_exactly}
 use Rattle.agreement.specs.TestsLaws.{Fails, fails_le, fails_as, ask_judges}
 

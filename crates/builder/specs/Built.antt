@@ -7,10 +7,10 @@ use Rattle.refusals.specs.Refusals.{result}
 use Rattle.refusals.specs.VerdictLaws.{checked_result}
 use Rattle.image.specs.Layout.{layout_verdict}
 use Rattle.image.specs.Sections.{sections, bodies_of, image_of, Fit}
-use Rattle.image.specs.SectionsRoundTrip.{image_length, image_good, image_bytes, sections_of_image}
-use Rattle.image.specs.ImageRoundTrip.{sections_fit, sections_bytes, image_of_sections}
+use Rattle.image.proofs.SectionsRoundTrip.{image_length, image_good, image_bytes, sections_of_image}
+use Rattle.image.proofs.ImageRoundTrip.{sections_fit, sections_bytes, image_of_sections}
 use Rattle.image.specs.Find.{body_of, found}
-use Rattle.image.specs.FindLaws.{found_in_image}
+use Rattle.image.proofs.FindLaws.{found_in_image}
 use Rattle.builder.specs.declared.KindAndLength.{KindAndLength}
 use Rattle.builder.specs.Build.{sections_of, build_verdict, build_image, Built}
 use Rattle.builder.specs.Lines.{lines_of}

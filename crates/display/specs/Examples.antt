@@ -8,7 +8,7 @@ use Rattle.refusals.specs.Refusals.{result}
 use Rattle.hextext.specs.Text.{read_text}
 use Rattle.hextext.specs.Written.{hex_digit, spell, checksum, head_and_data, record_text, writing, text_of}
 use Rattle.hexformat.specs.ComputedBytes.{computed_bytes}
-use Rattle.hexformat.specs.RoundTrip.{written_reads_back}
+use Rattle.hexformat.proofs.RoundTrip.{written_reads_back}
 use Rattle.panel.specs.Examples.{image, level_1, level_2, unknown_127}
 use Rattle.display.specs.Words.{decimal_in, field, pair, two_digits}
 use Rattle.display.specs.Page.{refused_words, identity_words, order_words, accepted_words, level_line, level_lines, text_refused, page_of}

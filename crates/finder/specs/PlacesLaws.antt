@@ -11,7 +11,7 @@ use Rattle.image.specs.Layout.{layout_verdict}
 use Rattle.image.specs.LayoutLaws.{body_within}
 use Rattle.image.specs.Sections.{sections_from, sections}
 use Rattle.image.specs.Find.{body_of, found, offset_from, found_offset}
-use Rattle.image.specs.FindLaws.{found_good, offset_good}
+use Rattle.image.proofs.FindLaws.{found_good, offset_good}
 use Rattle.finder.specs.declared.Place.{Place}
 use Rattle.finder.specs.declared.Place.TheVariants.{At, Nowhere}
 use Rattle.finder.specs.Places.{stated_from, stated_place, placed}

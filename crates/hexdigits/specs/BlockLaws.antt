@@ -7,7 +7,7 @@ use Rattle.std.proofs.lemmas.List.{take-append-le}
 use Rattle.laws.specs.Sums.{total}
 use Rattle.laws.specs.SumsLaws.{total_append}
 use Rattle.hextext.specs.Record.{digit, all_digits, bytes_of}
-use Rattle.hextext.specs.RecordLaws.{length_bytes_of}
+use Rattle.hextext.proofs.RecordLaws.{length_bytes_of}
 use Rattle.hexdigits.specs.PairsLaws.{PairsAddUp}
 use Rattle.hexdigits.specs.WrittenPairsLaws.{PairsWritten, WritingPairs, writing_block, writing_block_failed}
 

@@ -9,7 +9,7 @@ use Rattle.laws.specs.Cases.{decide}
 use Rattle.laws.specs.Sums.{total}
 use Rattle.numbers.specs.Slices.{cleared_from}
 use Rattle.hextext.specs.Record.{all_digits, bytes_of}
-use Rattle.hextext.specs.RecordLaws.{all_digits_end, bytes_total_end}
+use Rattle.hextext.proofs.RecordLaws.{all_digits_end, bytes_total_end}
 use Rattle.hexdigits.specs.Digits.{digits_sum, roomy_sum, bytes_put, PutsBytes}
 use Rattle.hexdigits.specs.PairsLaws.{PairsAddUp, sum_odd}
 use Rattle.hexdigits.specs.WrittenPairsLaws.{PairsWritten}

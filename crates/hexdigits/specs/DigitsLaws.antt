@@ -5,7 +5,7 @@ use Rattle.std.proofs.Common.{ap, ◌∙◌, leb-true}
 use native.Mathlib.Omega.{arith}
 use Rattle.laws.specs.Cases.{split, both_left, both_right}
 use Rattle.hextext.specs.Record.{digit, all_digits}
-use Rattle.hextext.specs.RecordLaws.{digit_decimal, digit_upper_case, digit_lower_case, byte_at, all_digits_yes, all_digits_no}
+use Rattle.hextext.proofs.RecordLaws.{digit_decimal, digit_upper_case, digit_lower_case, byte_at, all_digits_yes, all_digits_no}
 
 -- ---- a character
 

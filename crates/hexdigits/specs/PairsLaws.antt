@@ -4,7 +4,7 @@ use Rattle.std.proofs.Common.{◌∙◌, arith, eq-eqb, ne_eqb}
 use Rattle.laws.specs.Cases.{split}
 use Rattle.laws.specs.Sums.{total}
 use Rattle.hextext.specs.Record.{digit, all_digits, bytes_of}
-use Rattle.hextext.specs.RecordLaws.{all_digits_end, bytes_total_more, bytes_total_end}
+use Rattle.hextext.proofs.RecordLaws.{all_digits_end, bytes_total_more, bytes_total_end}
 use Rattle.hexdigits.specs.Digits.{digits_sum}
 use Rattle.hexdigits.specs.DigitsLaws.{SpellsByte, spells_digits, digits_spell, digits_none}
 

@@ -4,7 +4,7 @@ use Rattle.std.proofs.Common.{◌∙◌, append_assoc, arith, add-one, length-se
 use Rattle.std.proofs.Math.Seq.{paste, paste-zero, paste-suc}
 use Rattle.std.proofs.lemmas.List.Edits.{take-paste, drop-paste}
 use Rattle.hextext.specs.Record.{digit, all_digits, bytes_of}
-use Rattle.hextext.specs.RecordLaws.{bytes_of_more, get_d_bytes_of, length_bytes_of}
+use Rattle.hextext.proofs.RecordLaws.{bytes_of_more, get_d_bytes_of, length_bytes_of}
 use Rattle.hexdigits.specs.DigitsLaws.{digits_spell}
 use Rattle.hexdigits.specs.PairsLaws.{PairsAddUp, add_up_then, AddingPairs, adding_first, adding_more}
 

@@ -3,7 +3,7 @@ use Rattle.std.specs.Prelude.{◌≡◌, refl, Bool, true, false, cond, List, []
 use Rattle.std.proofs.Common.{ap, ◌∙◌, arith, length-append, get_or-append-add}
 use Rattle.std.proofs.Math.Seq.{get_or-append_seam, take-append_seam, take-append-add}
 use Rattle.hextext.specs.Text.{bare}
-use Rattle.hextext.specs.WithoutLaws.{without_one, bare_without}
+use Rattle.hextext.proofs.WithoutLaws.{without_one, bare_without}
 
 pub bare_return : (l : List ℕ) → bare (l ++ 13 ∷ []) ≡ l
 unfolding bare

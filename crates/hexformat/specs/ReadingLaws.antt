@@ -12,8 +12,8 @@ use Rattle.refusals.specs.declared.Refusal.{Refusal}
 use Rattle.refusals.specs.Refusals.{result, refused}
 use Rattle.hextext.specs.Record.{record_bytes, data_of, formed, summed, typed, line_of, placed, judge}
 use Rattle.hextext.specs.Text.{after, reading}
-use Rattle.hextext.specs.WithoutLaws.{Without, without_append, without_one, digits_without, bare_without}
-use Rattle.hextext.specs.TextLaws.{reading_line}
+use Rattle.hextext.proofs.WithoutLaws.{Without, without_append, without_one, digits_without, bare_without}
+use Rattle.hextext.proofs.TextLaws.{reading_line}
 use Rattle.hextext.specs.declared.Record.{Record}
 use Rattle.hextext.specs.declared.Record.TheVariants.{Fault}
 use Rattle.hexformat.specs.Format.{Spelled, LineEnd, lf, crlf, Fields, bytes, Form, Balanced}

@@ -3,7 +3,7 @@ use Rattle.std.specs.Prelude.{◌≡◌, refl, true, ◌&&◌, List, [], ◌∷�
 use Rattle.std.proofs.Common.{arith, lt-ltb, ltb-true}
 use Rattle.laws.specs.Cases.{split, both_left, both_right}
 use Rattle.hextext.specs.Record.{digit, all_digits, bytes_of}
-use Rattle.hextext.specs.RecordLaws.{digit_decimal, digit_upper_case, digit_lower_case, digit_low, digit_between, digit_gap, digit_high}
+use Rattle.hextext.proofs.RecordLaws.{digit_decimal, digit_upper_case, digit_lower_case, digit_low, digit_between, digit_gap, digit_high}
 use Rattle.hexformat.specs.Format.{Digit, decimal, upper_case, lower_case, Spelled, nothing, pair}
 
 digit_small : {c n : ℕ} → Digit c n → n < 16

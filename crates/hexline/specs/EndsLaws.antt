@@ -5,7 +5,7 @@ use Rattle.std.proofs.Math.Bool.{and-false}
 use borrow.Author.Tests.{eq-eqb, ne_eqb}
 use Rattle.std.proofs.Math.ListN.{get_or-eq_default}
 use Rattle.hextext.specs.Text.{line_length, bare}
-use Rattle.hextext.specs.TextLaws.{line_length_lf, line_length_more, line_length_end}
+use Rattle.hextext.proofs.TextLaws.{line_length_lf, line_length_more, line_length_end}
 use Rattle.hexline.specs.Line.{next_line}
 
 -- ---- a line's length

@@ -14,7 +14,7 @@ use Rattle.laws.specs.Sums.{total}
 use Rattle.hextext.specs.declared.Header.{Header}
 use Rattle.hextext.specs.declared.TextLine.TheVariants.{Good, Bad}
 use Rattle.hextext.specs.Record.{digit, all_digits, bytes_of, record_bytes, data_of, formed, summed, header, line_of}
-use Rattle.hextext.specs.RecordLaws.{digit_low, digit_decimal, digit_between, digit_upper_case, digit_gap, digit_lower_case, digit_high, byte_at, bytes_of_more, bytes_of_end, get_d_bytes_of, all_digits_at, formed_short, formed_at, formed_digits, formed_length}
+use Rattle.hextext.proofs.RecordLaws.{digit_low, digit_decimal, digit_between, digit_upper_case, digit_gap, digit_lower_case, digit_high, byte_at, bytes_of_more, bytes_of_end, get_d_bytes_of, all_digits_at, formed_short, formed_at, formed_digits, formed_length}
 use Rattle.hexdigits.specs.Digits.{digits_sum}
 use Rattle.hexline.specs.Line.{data_byte}
 

@@ -10,7 +10,7 @@ use Rattle.numbers.specs.Slices.{cleared_from}
 use Rattle.hextext.specs.declared.Record.{Record}
 use Rattle.hextext.specs.declared.Record.TheVariants.{Data, End, Fault}
 use Rattle.hextext.specs.Record.{digit, all_digits, bytes_of, record_bytes, count_of, data_of, judge}
-use Rattle.hextext.specs.RecordLaws.{record_bytes_head, formed_digits}
+use Rattle.hextext.proofs.RecordLaws.{record_bytes_head, formed_digits}
 use Rattle.hexdigits.specs.Digits.{PutsBytes}
 use Rattle.hexdigits.specs.WrittenPairsLaws.{PairsWritten}
 use Rattle.hexdigits.specs.BytesLaws.{puts_pairs}

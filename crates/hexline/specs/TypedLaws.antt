@@ -10,7 +10,7 @@ use Rattle.hextext.specs.declared.TextLine.TheVariants.{Good, Bad}
 use Rattle.hextext.specs.declared.Record.{Record}
 use Rattle.hextext.specs.declared.Record.TheVariants.{Data, End, Fault}
 use Rattle.hextext.specs.Record.{bytes_of, record_bytes, count_of, address_of, type_of, data_of, formed, summed, line_of, typed, placed, judge}
-use Rattle.hextext.specs.RecordLaws.{formed_length, length_bytes_of}
+use Rattle.hextext.proofs.RecordLaws.{formed_length, length_bytes_of}
 
 -- ---- the answer, by the tests
 

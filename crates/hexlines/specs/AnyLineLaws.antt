@@ -8,7 +8,7 @@ use Rattle.laws.specs.Cases.{decide}
 use Rattle.hextext.specs.declared.Record.{Record}
 use Rattle.hextext.specs.declared.Record.TheVariants.{Fault}
 use Rattle.hextext.specs.Record.{formed, judge}
-use Rattle.hextext.specs.RecordLaws.{judge_unformed}
+use Rattle.hextext.proofs.RecordLaws.{judge_unformed}
 use Rattle.hextext.specs.Text.{bare}
 use Rattle.hextext.specs.Lines.{line_inside, line_record}
 use Rattle.hexline.specs.Taken.{TakesRecord}

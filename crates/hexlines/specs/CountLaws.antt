@@ -5,7 +5,7 @@ use Rattle.std.proofs.Math.ListN.{get_or}
 use Rattle.std.proofs.Math.Seq.{length-take-le, get_or-take}
 use Rattle.laws.specs.Cases.{decide, both_left, both_right}
 use Rattle.hextext.specs.Record.{digit}
-use Rattle.hextext.specs.RecordLaws.{byte_at}
+use Rattle.hextext.proofs.RecordLaws.{byte_at}
 use Rattle.hexdigits.specs.DigitsLaws.{SpellsByte}
 use Rattle.hexline.specs.Line.{next_line}
 use Rattle.hexlines.specs.LettersLaws.{When, UsualStart}

@@ -12,7 +12,7 @@ use Rattle.laws.specs.Sums.{total}
 use Rattle.hextext.specs.declared.Record.{Record}
 use Rattle.hextext.specs.declared.Record.TheVariants.{Data, End, Fault}
 use Rattle.hextext.specs.Record.{all_digits, record_bytes, data_of, formed, summed, line_of, placed, judge}
-use Rattle.hextext.specs.RecordLaws.{byte_at, all_digits_end, bytes_total_end, formed_at, formed_length, record_bytes_head}
+use Rattle.hextext.proofs.RecordLaws.{byte_at, all_digits_end, bytes_total_end, formed_at, formed_length, record_bytes_head}
 use Rattle.hexdigits.specs.Digits.{PutsBytes}
 use Rattle.hexdigits.specs.DigitsLaws.{SpellsByte}
 use Rattle.hexdigits.specs.PairsLaws.{PairsAddUp, add_up_one, add_up_then}

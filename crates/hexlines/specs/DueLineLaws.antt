@@ -13,7 +13,7 @@ use Rattle.laws.specs.Sums.{total}
 use Rattle.hextext.specs.declared.Record.{Record}
 use Rattle.hextext.specs.declared.Record.TheVariants.{Data, End, Fault}
 use Rattle.hextext.specs.Record.{digit, all_digits, bytes_of, record_bytes, formed, summed, line_of, typed, placed, judge}
-use Rattle.hextext.specs.RecordLaws.{all_digits_at, formed_digits, formed_length, judge_unformed, digit_low}
+use Rattle.hextext.proofs.RecordLaws.{all_digits_at, formed_digits, formed_length, judge_unformed, digit_low}
 use Rattle.hextext.specs.Text.{bare}
 use Rattle.hextext.specs.Lines.{line_inside, line_record, line_data}
 use Rattle.hexline.specs.Taken.{after_taken}

@@ -13,7 +13,7 @@ use Rattle.laws.specs.Cases.{split, never, both_left, both_right}
 use Rattle.numbers.specs.Fields.{little_endian, number_at}
 use Rattle.numbers.specs.FieldsLaws.{number_of_halves, byte_at_lem}
 use Rattle.hextext.specs.Record.{digit}
-use Rattle.hextext.specs.RecordLaws.{digit_decimal, digit_upper_case, digit_lower_case, byte_at}
+use Rattle.hextext.proofs.RecordLaws.{digit_decimal, digit_upper_case, digit_lower_case, byte_at}
 use Rattle.hexdigits.specs.DigitsLaws.{SpellsByte}
 
 -- ---- an answer that is yes only where something holds

@@ -5,7 +5,7 @@ use Rattle.std.specs.Int.{w64}
 use Rattle.laws.specs.Cases.{split}
 use Rattle.laws.specs.TableTests.{every, entry}
 use Rattle.hextext.specs.Record.{digit, all_digits}
-use Rattle.hextext.specs.RecordLaws.{byte_at}
+use Rattle.hextext.proofs.RecordLaws.{byte_at}
 use Rattle.hexdigits.specs.DigitsLaws.{SpellsByte, spells_digits, spells_none}
 
 -- ---- a character

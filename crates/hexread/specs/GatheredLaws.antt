@@ -8,10 +8,10 @@ use Rattle.std.proofs.Math.Seq.{get_or-take, take-take, length-take-le}
 use Rattle.laws.specs.Cases.{split, decide, both_left, both_right}
 use Rattle.refusals.specs.Refusals.{refused, refusal}
 use Rattle.hextext.specs.Record.{all_digits, record_bytes, count_of, data_of, formed, judge}
-use Rattle.hextext.specs.RecordLaws.{byte_at, record_bytes_head, formed_long, formed_length, formed_digits, formed_colon, judge_unformed}
+use Rattle.hextext.proofs.RecordLaws.{byte_at, record_bytes_head, formed_long, formed_length, formed_digits, formed_colon, judge_unformed}
 use Rattle.hextext.specs.Text.{bare, after, reading}
-use Rattle.hextext.specs.WithoutLaws.{Without, without_append, without_one, digits_without, bare_without}
-use Rattle.hextext.specs.TextLaws.{reading_line}
+use Rattle.hextext.proofs.WithoutLaws.{Without, without_append, without_one, digits_without, bare_without}
+use Rattle.hextext.proofs.TextLaws.{reading_line}
 use Rattle.hexline.specs.Line.{next_line}
 use Rattle.hexline.specs.EndsLaws.{next_lf, next_crlf}
 

@@ -12,7 +12,7 @@ use Rattle.refusals.specs.Refusals.{result, refused, refusal}
 use Rattle.hextext.specs.declared.Record.{Record}
 use Rattle.hextext.specs.declared.Record.TheVariants.{Data, End, Fault}
 use Rattle.hextext.specs.Record.{digit, record_bytes, data_of, formed, judge}
-use Rattle.hextext.specs.RecordLaws.{byte_at, all_digits_at, formed_digits, judge_unformed}
+use Rattle.hextext.proofs.RecordLaws.{byte_at, all_digits_at, formed_digits, judge_unformed}
 use Rattle.hextext.specs.Text.{after, reading}
 use Rattle.hexline.specs.Line.{next_line}
 use Rattle.hexline.specs.TypedLaws.{GoodDataRecord, good_data_record, data_length}

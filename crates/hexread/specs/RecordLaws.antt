@@ -10,7 +10,7 @@ use Rattle.laws.specs.Sums.{total}
 use Rattle.hextext.specs.declared.Record.{Record}
 use Rattle.hextext.specs.declared.Record.TheVariants.{Data, End, Fault}
 use Rattle.hextext.specs.Record.{all_digits, bytes_of, record_bytes, data_of, formed, summed, line_of, typed, placed, judge}
-use Rattle.hextext.specs.RecordLaws.{byte_at, all_digits_end, bytes_total_more, bytes_total_end, formed_at, judge_unformed, record_bytes_head}
+use Rattle.hextext.proofs.RecordLaws.{byte_at, all_digits_end, bytes_total_more, bytes_total_end, formed_at, judge_unformed, record_bytes_head}
 use Rattle.hexline.specs.TypedLaws.{end_empty, good_data_record}
 use Rattle.hexdigits.specs.Digits.{PutsBytes}
 use Rattle.hexdigits.specs.WrittenPairsLaws.{PairsWritten}

@@ -3,12 +3,8 @@ pub mod Layout
 pub mod Sections
 pub mod Find
 pub mod Merged
-pub mod LineLaws
 pub mod ContentsLaws
 pub mod LayoutLaws
-pub mod SectionsRoundTrip
-pub mod ImageRoundTrip
-pub mod FindLaws
 pub mod OrderLaws
 pub mod MergedLaws
 pub mod Examples

@@ -12,8 +12,8 @@ use Rattle.image.specs.Layout.{layout_verdict}
 use Rattle.image.specs.Sections.{Section, sections, bodies_of, image_of, Fit}
 use Rattle.image.specs.Find.{body_of, is_there}
 use Rattle.image.specs.OrderLaws.{Ascending, none_below}
-use Rattle.image.specs.SectionsRoundTrip.{image_length, image_good, sections_of_image}
-use Rattle.image.specs.ImageRoundTrip.{sections_fit}
+use Rattle.image.proofs.SectionsRoundTrip.{image_length, image_good, sections_of_image}
+use Rattle.image.proofs.ImageRoundTrip.{sections_fit}
 use Rattle.builder.specs.Build.{build_image}
 use Rattle.builder.specs.Lines.{lines_of}
 use Rattle.builder.specs.BuildLaws.{passes, lines_counted, lines_rise, lines_total, sections_again}

@@ -14,7 +14,7 @@ use Rattle.paper.specs.ReadingTable.{reading_table}
 use Rattle.hexformat.specs.Format.{GoodText}
 use Rattle.hexformat.specs.Faults.{Refuses}
 use Rattle.hexformat.specs.Writing.{Written}
-use Rattle.hexformat.specs.Agrees.{read_exactly, refused_exactly, refused_known}
+use Rattle.hexformat.proofs.Agrees.{read_exactly, refused_exactly, refused_known}
 use Rattle.laws.specs.Bytes.{Bytes}
 use Rattle.laws.specs.Cases.{never, both_left, both_right}
 use Rattle.refusals.specs.declared.Refusal.{Refusal}
@@ -48,7 +48,7 @@ use Rattle.agreement.specs.FinderAgrees.{found_exactly, absent_exactly, offset_e
 use Rattle.agreement.specs.BuilderAgrees.{build_refused_exactly, built_exactly}
 use Rattle.agreement.specs.VerdictAgrees.{verdict_refused_exactly, verdict_accepted_exactly}
 use Rattle.agreement.specs.OnPaper.{on_paper}
-use Rattle.agreement.specs.ReadingAgrees.{reading_refused_exactly, reading_shown_exactly}
+use Rattle.agreement.proofs.ReadingAgrees.{reading_refused_exactly, reading_shown_exactly}
 use Rattle.promises.specs.Answers.{Fills, refused, filled, kinds_lent, lengths_lent, LoadRefused, Loaded, AnswersFind, found, absent, FindsPart, found_part, absent_part, AnswersReading, not_shown, shown}
 
 -- ---- every number of a table is from 1 on

@@ -26,9 +26,9 @@ use Rattle.hexformat.specs.Format.{Digit, GoodText}
 use Rattle.hexformat.specs.Faults.{Refuses}
 use Rattle.hexformat.specs.Writing.{Written}
 use Rattle.hexformat.specs.Damage.{IsRefused}
-use Rattle.hexformat.specs.Agrees.{read_exactly, refused_exactly, one_fault}
-use Rattle.hexformat.specs.RoundTrip.{written_is_good, written_reads_back, there_and_back}
-use Rattle.hexformat.specs.Damaged.{digit_changed}
+use Rattle.hexformat.proofs.Agrees.{read_exactly, refused_exactly, one_fault}
+use Rattle.hexformat.proofs.RoundTrip.{written_is_good, written_reads_back, there_and_back}
+use Rattle.hexformat.proofs.Damaged.{digit_changed}
 use Rattle.image.specs.Layout.{layout_verdict}
 use Rattle.image.specs.Find.{found, found_offset}
 use Rattle.builder.specs.Build.{build_image}
@@ -54,8 +54,8 @@ use Rattle.agreement.specs.FinderAgrees.{found_exactly, absent_exactly, offset_e
 use Rattle.agreement.specs.BuilderAgrees.{build_refused_exactly, built_exactly}
 use Rattle.agreement.specs.VerdictAgrees.{verdict_refused_exactly, verdict_accepted_exactly}
 use Rattle.agreement.specs.OnPaper.{on_paper, ShowsReading}
-use Rattle.agreement.specs.ReadingAgrees.{reading_refused_exactly, reading_shown_exactly}
-use Rattle.agreement.specs.ManualAgrees.{grid_by_manual, shows_by_manual}
+use Rattle.agreement.proofs.ReadingAgrees.{reading_refused_exactly, reading_shown_exactly}
+use Rattle.agreement.proofs.ManualAgrees.{grid_by_manual, shows_by_manual}
 
 -- ---- the HEX reader
 

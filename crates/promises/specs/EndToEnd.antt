@@ -12,8 +12,8 @@ use Rattle.refusals.specs.Refusals.{result, Fills}
 use Rattle.refusals.specs.RefusalsLaws.{result_of}
 use Rattle.hextext.specs.Text.{read_text}
 use Rattle.hextext.specs.Written.{write_image}
-use Rattle.hexformat.specs.WritingLaws.{written_exactly as text-exactly}
-use Rattle.hexformat.specs.RoundTrip.{written_reads_back}
+use Rattle.hexformat.proofs.WritingLaws.{written_exactly as text-exactly}
+use Rattle.hexformat.proofs.RoundTrip.{written_reads_back}
 use Rattle.image.specs.Sections.{Section, bodies_of}
 use Rattle.image.specs.Find.{found}
 use Rattle.builder.specs.Build.{build_image}
@@ -28,7 +28,7 @@ use Rattle.panel.specs.Reading.{reading_of}
 use Rattle.panel.specs.Load.{load_text}
 use Rattle.agreement.specs.WriterAgrees.{written_exactly}
 use Rattle.agreement.specs.OnPaper.{on_paper}
-use Rattle.agreement.specs.ManualAgrees.{shows_by_manual}
+use Rattle.agreement.proofs.ManualAgrees.{shows_by_manual}
 use Rattle.promises.specs.LaidOutAnew.{Among, EachOnce}
 use Rattle.promises.specs.AnewBuilt.{among_found}
 

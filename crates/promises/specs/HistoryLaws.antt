@@ -12,7 +12,7 @@ use Rattle.refusals.specs.VerdictLaws.{checked_result}
 use Rattle.hextext.specs.Lines.{lines_of, joined, under_way, Progress, after_line, after_lines, at_end}
 use Rattle.promises.specs.LinesLaws.{lines_read, pieces_are_lines}
 use Rattle.hextext.specs.Text.{read_text}
-use Rattle.hexformat.specs.Agrees.{read_exactly}
+use Rattle.hexformat.proofs.Agrees.{read_exactly}
 use Rattle.panel.specs.Verdict.{verdict_of}
 use Rattle.panel.specs.Load.{judged, load_text}
 use Rattle.lamp.specs.Panel.{Standing, level_kept, is_lit, image_held}

@@ -13,12 +13,12 @@ use Rattle.calls.specs.LendLaws.{lendable}
 use Rattle.hextext.specs.Text.{reading as reading_text, read_text}
 use Rattle.hextext.specs.Written.{text_of, text_length, write_image}
 use Rattle.hexformat.specs.ComputedBytes.{computed_bytes}
-use Rattle.hexformat.specs.RoundTrip.{is_written, text_length_lem}
+use Rattle.hexformat.proofs.RoundTrip.{is_written, text_length_lem}
 use Rattle.image.specs.Layout.{layout_verdict}
 use Rattle.image.specs.Sections.{Section, sections, bodies_of, image_of}
 use Rattle.image.specs.Find.{body_of}
 use Rattle.image.specs.OrderLaws.{sections_ascend}
-use Rattle.image.specs.ImageRoundTrip.{sections_bytes}
+use Rattle.image.proofs.ImageRoundTrip.{sections_bytes}
 use Rattle.builder.specs.Build.{build_image}
 use Rattle.builder.specs.Lines.{lines_of}
 use Rattle.builder.specs.Built.{good_built}

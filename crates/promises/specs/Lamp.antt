@@ -9,7 +9,7 @@ use Rattle.refusals.specs.InNumbers.{filled_number, filled_detail, filled_length
 use Rattle.refusals.specs.Refusals.{Outcome, result, refused, refusal, answer_to, held_after}
 use Rattle.hextext.specs.declared.Record.TheVariants.{Fault}
 use Rattle.hextext.specs.Record.{record_bytes, count_of, formed}
-use Rattle.hextext.specs.RecordLaws.{byte_at, all_digits_at, formed_digits, formed_length, record_bytes_head, judge_unformed}
+use Rattle.hextext.proofs.RecordLaws.{byte_at, all_digits_at, formed_digits, formed_length, record_bytes_head, judge_unformed}
 use Rattle.hextext.specs.Text.{bare}
 use Rattle.hextext.specs.Lines.{lines_of, line_inside, line_record}
 use Rattle.reading.specs.declared.Counts.{Counts}

@@ -17,8 +17,8 @@ use Rattle.hextext.specs.Text.{bare, read_text}
 use Rattle.hextext.specs.Text.{reading as reading_text}
 use Rattle.hextext.specs.Lines.{line_inside, line_record, after_line, after_lines}
 use Rattle.hextext.specs.Written.{text_of}
-use Rattle.hexformat.specs.Agrees.{read_exactly}
-use Rattle.hexformat.specs.RoundTrip.{written_reads_back}
+use Rattle.hexformat.proofs.Agrees.{read_exactly}
+use Rattle.hexformat.proofs.RoundTrip.{written_reads_back}
 use Rattle.laws.specs.Sums.{total}
 use Rattle.reading.specs.declared.Counts.{Counts}
 use Rattle.reading.specs.declared.Answer.TheVariants.{Refused}

@@ -14,10 +14,10 @@ use Rattle.refusals.specs.Refusals.{result, refused, refusal}
 use Rattle.hextext.specs.declared.Record.{Record}
 use Rattle.hextext.specs.declared.Record.TheVariants.{Data, End, Fault}
 use Rattle.hextext.specs.Record.{record_bytes, data_of, formed, judge}
-use Rattle.hextext.specs.RecordLaws.{judge_unformed}
+use Rattle.hextext.proofs.RecordLaws.{judge_unformed}
 use Rattle.hextext.specs.Text.{bare, after, reading, read_text}
-use Rattle.hextext.specs.WithoutLaws.{Without, formed_without}
-use Rattle.hextext.specs.TextLaws.{reading_line}
+use Rattle.hextext.proofs.WithoutLaws.{Without, formed_without}
+use Rattle.hextext.proofs.TextLaws.{reading_line}
 use Rattle.hextext.specs.Lines.{lines_from, lines_of, joined, line_inside, line_record, line_data, under_way, whole, stopped, after_record, after_line, after_lines, at_end}
 
 -- ---- after a fault

@@ -10,7 +10,7 @@ use Rattle.refusals.specs.Refusals.{refused, refusal}
 use Rattle.refusals.specs.FieldsVerdict.{fields_verdict, fields_from}
 use Rattle.hextext.specs.Text.{read_text}
 use Rattle.hextext.specs.Written.{text_of}
-use Rattle.hexformat.specs.Examples.{writes, writes_28, refuses}
+use Rattle.hexformat.proofs.Examples.{writes, writes_28, refuses}
 use Rattle.image.specs.Layout.{layout_verdict}
 use Rattle.image.specs.Examples.{contents_overrun}
 use Rattle.bodies.specs.Identity.{identity_verdict}

@@ -6,7 +6,7 @@ use Rattle.image.specs.Contents.{line_count}
 use Rattle.image.specs.Layout.{layout_verdict}
 use Rattle.image.specs.Sections.{Section, sections, image_of, Fit}
 use Rattle.image.specs.Find.{body_of, found, offset_from, found_offset}
-use Rattle.image.specs.SectionsRoundTrip.{image_good, sections_of_image}
+use Rattle.image.proofs.SectionsRoundTrip.{image_good, sections_of_image}
 
 -- in an image with a good layout, what its sections hold
 pub found_good : (image : List ℕ) (kind : ℕ) → layout_verdict image ≡ Accepted → found image kind ≡ body_of kind (sections image)

@@ -10,13 +10,13 @@ use Rattle.laws.specs.Cases.{split, decide, never, both_left, both_right}
 use Rattle.laws.specs.Lists.{last_apart, ends_with}
 use Rattle.laws.specs.Sums.{total}
 use Rattle.hextext.specs.Record.{bytes_of, record_bytes, count_of, data_of, formed, typed, judge}
-use Rattle.hextext.specs.RecordLaws.{formed_long, formed_colon, formed_digits, formed_length, judge_unformed}
+use Rattle.hextext.proofs.RecordLaws.{formed_long, formed_colon, formed_digits, formed_length, judge_unformed}
 use Rattle.hextext.specs.Text.{bare}
 use Rattle.hextext.specs.declared.Record.{Record}
 use Rattle.hextext.specs.declared.Record.TheVariants.{Data, End, Fault}
 use Rattle.hexformat.specs.Format.{Spelled, LineEnd, lf, crlf, Fields, bytes, Form, Balanced, IsData, IsEnd}
 use Rattle.hexformat.specs.Faults.{Breaks, no_form, not_balanced, neither, no_room}
-use Rattle.hextext.specs.WithoutLaws.{bare_without}
+use Rattle.hextext.proofs.WithoutLaws.{bare_without}
 use Rattle.hexformat.specs.BareLaws.{bare_return}
 use Rattle.hexformat.specs.SpelledLaws.{spelled_bytes, spelled_of, spelled_small}
 use Rattle.hexformat.specs.ReadingLaws.{data_bytes, formed_spelled, colon_without, judge_balanced, judge_unbalanced}

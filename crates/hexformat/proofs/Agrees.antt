@@ -7,7 +7,7 @@ use Rattle.refusals.specs.Refusals.{result, refused, refusal}
 use Rattle.hextext.specs.Text.{read_text}
 use Rattle.hexformat.specs.Format.{GoodText}
 use Rattle.hexformat.specs.Faults.{Refuses}
-use Rattle.hexformat.specs.FormatSaysLaws.{format_says, reads_good, reads_refuses, refuses_known}
+use Rattle.hexformat.proofs.FormatSaysLaws.{format_says, reads_good, reads_refuses, refuses_known}
 
 module _ (size : ℕ) (text : List ℕ) where
   -- a text is read as an image exactly where it is a good text of that image, and the image has room

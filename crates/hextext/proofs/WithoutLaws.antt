@@ -5,7 +5,7 @@ use Rattle.std.proofs.Math.ListN.{get_or-eq_default}
 use Rattle.laws.specs.Cases.{split, decide}
 use Rattle.laws.specs.Lists.{ends_with}
 use Rattle.hextext.specs.Record.{all_digits, formed}
-use Rattle.hextext.specs.RecordLaws.{digit_low, all_digits_at, formed_long, formed_colon, formed_digits}
+use Rattle.hextext.proofs.RecordLaws.{digit_low, all_digits_at, formed_long, formed_colon, formed_digits}
 use Rattle.hextext.specs.Text.{bare}
 
 -- no place of the list holds c

@@ -24,7 +24,7 @@ use Rattle.agreement.specs.TableLaws.{none_before}
 use Rattle.agreement.specs.VerdictAgrees.{verdict_accepted_exactly, accepted_readable}
 use Rattle.agreement.specs.SetAgrees.{few_rows, few_places, place_there, place_absent, row_absent}
 use Rattle.agreement.specs.OnPaper.{on_paper}
-use Rattle.agreement.specs.ReadingAgrees.{reading_shown_exactly}
+use Rattle.agreement.proofs.ReadingAgrees.{reading_shown_exactly}
 
 -- ---- a sum of at most five terms, with zeros for the others
 

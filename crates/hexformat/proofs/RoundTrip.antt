@@ -11,9 +11,9 @@ use Rattle.hextext.specs.Text.{read_text}
 use Rattle.hextext.specs.Written.{text_of, text_length, write_image}
 use Rattle.hextext.specs.WrittenLaws.{length_text_of, text_length_full, text_length_rest}
 use Rattle.hexformat.specs.Format.{GoodText, none}
-use Rattle.hexformat.specs.Agrees.{read_exactly}
-use Rattle.hexformat.specs.GoodTexts.{image_is_bytes}
-use Rattle.hexformat.specs.WrittenLaws.{writing_good}
+use Rattle.hexformat.proofs.Agrees.{read_exactly}
+use Rattle.hexformat.proofs.GoodTexts.{image_is_bytes}
+use Rattle.hexformat.proofs.WrittenLaws.{writing_good}
 
 module _ (image : List ℕ) (are_bytes : Bytes image) where
   -- what is written of an image is a good text of it

@@ -9,9 +9,9 @@ use Rattle.hexformat.specs.Format.{Digit, GoodText}
 use Rattle.hexformat.specs.Faults.{WholeLine}
 use Rattle.hexformat.specs.Damage.{IsRefused, SameDigit, SpareReturn, WholeLines, LastData}
 use Rattle.hexformat.specs.SpelledLaws.{digit_value}
-use Rattle.hexformat.specs.Agrees.{read_exactly}
-use Rattle.hexformat.specs.CharacterDamageLaws.{one_apart, exchanged_apart, one_longer, no_beginning}
-use Rattle.hexformat.specs.LineDamageLaws.{one_lost, one_doubled, two_exchanged}
+use Rattle.hexformat.proofs.Agrees.{read_exactly}
+use Rattle.hexformat.proofs.CharacterDamageLaws.{one_apart, exchanged_apart, one_longer, no_beginning}
+use Rattle.hexformat.proofs.LineDamageLaws.{one_lost, one_doubled, two_exchanged}
 
 -- ---- a text is refused, or what holds of the images that it is a good text of holds of what it is read as
 

@@ -14,7 +14,7 @@ use Rattle.refusals.specs.VerdictLaws.{ask_passes}
 use Rattle.image.specs.Contents.{line_count, line_place, kind_at, lines_verdict}
 use Rattle.image.specs.Layout.{body_at, sums_verdict, layout_verdict}
 use Rattle.image.specs.Sections.{Section, sections_from, sections, two_bytes, contents_from, bodies_of, image_of, Rising, Fit}
-use Rattle.image.specs.LineLaws.{LineSays, line_says}
+use Rattle.image.proofs.LineLaws.{LineSays, line_says}
 use Rattle.image.specs.ContentsLaws.{right_passes}
 use Rattle.image.specs.LayoutLaws.{layout_passes}
 

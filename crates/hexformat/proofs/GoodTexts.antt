@@ -10,8 +10,8 @@ use Rattle.hexformat.specs.Faults.{WholeLine}
 use Rattle.hexformat.specs.Damage.{WholeLines, none as no_lines, more}
 use Rattle.hexformat.specs.SpelledLaws.{spelled_small, spelled_length}
 use Rattle.hexformat.specs.ReadingLaws.{same_result, length_bytes, form_whole}
-use Rattle.hexformat.specs.FormatSaysLaws.{reads_good}
-use Rattle.hexformat.specs.Agrees.{read_exactly}
+use Rattle.hexformat.proofs.FormatSaysLaws.{reads_good}
+use Rattle.hexformat.proofs.Agrees.{read_exactly}
 
 -- a text is a good text of one image at most
 pub one_image : (image other text : List ℕ) → GoodText image text → GoodText other text → image ≡ other

@@ -12,15 +12,15 @@ use Rattle.laws.specs.Cases.{decide, never}
 use Rattle.laws.specs.Sums.{total}
 use Rattle.refusals.specs.Refusals.{Outcome, result}
 use Rattle.hextext.specs.Record.{digit, record_bytes, data_of, formed, summed, line_of, placed, judge}
-use Rattle.hextext.specs.RecordLaws.{digit_low, digit_between, all_digits_at, formed_colon, formed_digits, formed_length}
+use Rattle.hextext.proofs.RecordLaws.{digit_low, digit_between, all_digits_at, formed_colon, formed_digits, formed_length}
 use Rattle.hextext.specs.Text.{bare, after, reading}
 use Rattle.hextext.specs.declared.Record.{Record}
 use Rattle.hextext.specs.declared.Record.TheVariants.{Data, End, Fault}
 use Rattle.hexformat.specs.Format.{GoodText}
 use Rattle.hexformat.specs.BareLaws.{bare_return, bare_on, bare_last}
-use Rattle.hextext.specs.TextLaws.{ended}
+use Rattle.hextext.proofs.TextLaws.{ended}
 use Rattle.hexformat.specs.ReadingLaws.{refused_not}
-use Rattle.hexformat.specs.FormatSaysLaws.{reads_good}
+use Rattle.hexformat.proofs.FormatSaysLaws.{reads_good}
 
 -- ---- formed lines
 

@@ -11,16 +11,16 @@ use Rattle.laws.specs.Lists.{last_apart}
 use Rattle.laws.specs.Cases.{decide}
 use Rattle.refusals.specs.Refusals.{result}
 use Rattle.hextext.specs.Record.{digit, bytes_of, record_bytes, count_of, data_of, formed, line_of, placed, judge}
-use Rattle.hextext.specs.RecordLaws.{formed_colon, formed_length, formed_long}
+use Rattle.hextext.proofs.RecordLaws.{formed_colon, formed_length, formed_long}
 use Rattle.hextext.specs.Text.{bare, after, reading}
 use Rattle.hexformat.specs.Format.{GoodText}
 use Rattle.hexformat.specs.Damage.{SameDigit, SpareReturn}
 use Rattle.hexformat.specs.SpelledLaws.{digit_of}
 use Rattle.hexformat.specs.SumLaws.{same_digit, same_bytes, same_either_way, same_bytes_exchanged}
 use Rattle.hexformat.specs.BareLaws.{bare_return, bare_append, bare_on, bare_last}
-use Rattle.hextext.specs.TextLaws.{ended}
+use Rattle.hextext.proofs.TextLaws.{ended}
 use Rattle.hexformat.specs.ReadingLaws.{refused_not, same_result}
-use Rattle.hexformat.specs.DifferenceLaws.{digit_inside, return_inside, formed_odd, longer_by_one, GoodRecord, read_line_good, no_empty_line, starts_colon, no_colon, reads_on, UpToDifference, good_up_to_difference}
+use Rattle.hexformat.proofs.DifferenceLaws.{digit_inside, return_inside, formed_odd, longer_by_one, GoodRecord, read_line_good, no_empty_line, starts_colon, no_colon, reads_on, UpToDifference, good_up_to_difference}
 
 -- ---- they differ in one character
 

@@ -15,10 +15,10 @@ use Rattle.hextext.specs.declared.Record.TheVariants.{Data, End, Fault}
 use Rattle.hexformat.specs.Format.{Fields, Form, Balanced, IsData, IsEnd, DataLines, none, next, GoodText}
 use Rattle.hexformat.specs.Faults.{NoLineFeed, WholeLine, Breaks, no_form, not_balanced, neither, no_room, Refuses, stops, breaks, goes_on}
 use Rattle.hexformat.specs.SpelledLaws.{spelled_small}
-use Rattle.hextext.specs.WithoutLaws.{without_append, without_one}
-use Rattle.hextext.specs.TextLaws.{reading_line}
+use Rattle.hextext.proofs.WithoutLaws.{without_append, without_one}
+use Rattle.hextext.proofs.TextLaws.{reading_line}
 use Rattle.hexformat.specs.ReadingLaws.{reading_form, judge_balanced, judge_unbalanced}
-use Rattle.hexformat.specs.JudgedLaws.{Judged, more, end, fault, judged, judge_no_form, typed_data, typed_full, typed_end, typed_other}
+use Rattle.hexformat.proofs.JudgedLaws.{Judged, more, end, fault, judged, judge_no_form, typed_data, typed_full, typed_end, typed_other}
 
 -- what the format says of an answer
 abbrev pub FormatSays : (room : ℕ) (text : List ℕ) → Outcome → Type 0

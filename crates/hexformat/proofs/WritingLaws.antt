@@ -14,7 +14,7 @@ use Rattle.hextext.specs.Written.{hex_digit, spell, checksum, head_and_data, rec
 use Rattle.hexformat.specs.Format.{Digit, decimal, upper_case, lower_case, Spelled, nothing, pair, Fields, bytes, IsData}
 use Rattle.hexformat.specs.Writing.{UpperCase, WrittenLine, end_line, WrittenFrom, end, full, last, Written}
 use Rattle.hexformat.specs.SpelledLaws.{spelled_small}
-use Rattle.hexformat.specs.WrittenLaws.{spelled_written, written, written_balanced, written_bytes, writing_nothing}
+use Rattle.hexformat.proofs.WrittenLaws.{spelled_written, written, written_balanced, written_bytes, writing_nothing}
 
 -- ---- digits
 

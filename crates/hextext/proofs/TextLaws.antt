@@ -6,7 +6,7 @@ use borrow.Author.Tests.{eq-eqb, ne_eqb}
 use Rattle.refusals.specs.Refusals.{Outcome}
 use Rattle.hextext.specs.Record.{record_bytes, data_of, judge}
 use Rattle.hextext.specs.Text.{line_length, bare, after, reading}
-use Rattle.hextext.specs.WithoutLaws.{Without}
+use Rattle.hextext.proofs.WithoutLaws.{Without}
 
 -- ---- from a place on
 

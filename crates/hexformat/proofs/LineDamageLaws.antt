@@ -9,13 +9,13 @@ use Rattle.hextext.specs.Text.{bare, after, reading}
 use Rattle.hextext.specs.declared.Record.{Record}
 use Rattle.hextext.specs.declared.Record.TheVariants.{Fault}
 use Rattle.hexformat.specs.Format.{Fields, Form, Balanced, IsData, IsEnd, GoodText}
-use Rattle.hextext.specs.WithoutLaws.{without_more}
-use Rattle.hextext.specs.TextLaws.{reading_line}
+use Rattle.hextext.proofs.WithoutLaws.{without_more}
+use Rattle.hextext.proofs.TextLaws.{reading_line}
 use Rattle.hexformat.specs.Faults.{NoLineFeed, WholeLine}
 use Rattle.hexformat.specs.Damage.{WholeLines, none, more, LastData}
 use Rattle.hexformat.specs.ReadingLaws.{refused_not, same_result, reading_form, judge_balanced}
-use Rattle.hexformat.specs.JudgedLaws.{Judged, more as data-judged, end, fault, judged, typed_other}
-use Rattle.hexformat.specs.FormatSaysLaws.{count_small, read_data, read_end, read_last, read_stops, reads_good}
+use Rattle.hexformat.proofs.JudgedLaws.{Judged, more as data-judged, end, fault, judged, typed_other}
+use Rattle.hexformat.proofs.FormatSaysLaws.{count_small, read_data, read_end, read_last, read_stops, reads_good}
 
 -- ---- the reader at a whole line
 

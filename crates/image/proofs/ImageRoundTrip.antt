@@ -16,10 +16,10 @@ use Rattle.refusals.specs.declared.Verdict.TheVariants.{Accepted}
 use Rattle.image.specs.Contents.{line_count, line_place, kind_at, zero_at, offset_at, length_at, sum_at, lines_verdict}
 use Rattle.image.specs.Layout.{body_at, sums_verdict, layout_verdict}
 use Rattle.image.specs.Sections.{Section, sections_from, sections, contents_from, bodies_of, image_of, Rising, Fit}
-use Rattle.image.specs.LineLaws.{line_spelled}
+use Rattle.image.proofs.LineLaws.{line_spelled}
 use Rattle.image.specs.ContentsLaws.{line_passed, lines_ended}
 use Rattle.image.specs.LayoutLaws.{sum_passed, layout_passed}
-use Rattle.image.specs.SectionsRoundTrip.{HoldsSections}
+use Rattle.image.proofs.SectionsRoundTrip.{HoldsSections}
 use Rattle.image.specs.Find.{body_of}
 use Rattle.image.specs.OrderLaws.{sections_ascend, told_by_bodies}
 

@@ -16,11 +16,11 @@ use Rattle.hexformat.specs.Faults.{Refuses, stops, breaks, goes_on, no_form, not
 use Rattle.hexformat.specs.Damage.{IsRefused, SameDigit, SpareReturn, WholeLines, none as no_lines, LastData}
 use Rattle.hexformat.specs.SpelledLaws.{spelled_of}
 use Rattle.hexformat.specs.ReadingLaws.{form_whole}
-use Rattle.hexformat.specs.JudgedLaws.{form_formed}
-use Rattle.hexformat.specs.Agrees.{read_exactly, refused_exactly, refused_known, one_fault}
-use Rattle.hexformat.specs.GoodTexts.{one_image, image_is_bytes, text_is_lines, text_length_bound, read_length_bound}
-use Rattle.hexformat.specs.RoundTrip.{written_is_good, written_reads_back, read_reads_back, is_written, there_and_back, length_of_full_records, length_with_a_rest}
-use Rattle.hexformat.specs.Damaged.{character_replaced, digit_changed, characters_exchanged, character_lost, character_added, cut_off, line_lost, line_doubled, lines_exchanged}
+use Rattle.hexformat.proofs.JudgedLaws.{form_formed}
+use Rattle.hexformat.proofs.Agrees.{read_exactly, refused_exactly, refused_known, one_fault}
+use Rattle.hexformat.proofs.GoodTexts.{one_image, image_is_bytes, text_is_lines, text_length_bound, read_length_bound}
+use Rattle.hexformat.proofs.RoundTrip.{written_is_good, written_reads_back, read_reads_back, is_written, there_and_back, length_of_full_records, length_with_a_rest}
+use Rattle.hexformat.proofs.Damaged.{character_replaced, digit_changed, characters_exchanged, character_lost, character_added, cut_off, line_lost, line_doubled, lines_exchanged}
 
 -- ---- lines
 

@@ -1,0 +1,2 @@
+pub mod ReadingAgrees
+pub mod ManualAgrees

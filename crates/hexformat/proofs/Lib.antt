@@ -1,0 +1,12 @@
+pub mod JudgedLaws
+pub mod FormatSaysLaws
+pub mod Agrees
+pub mod DifferenceLaws
+pub mod CharacterDamageLaws
+pub mod LineDamageLaws
+pub mod Damaged
+pub mod GoodTexts
+pub mod WrittenLaws
+pub mod RoundTrip
+pub mod WritingLaws
+pub mod Examples

@@ -1,0 +1,4 @@
+pub mod LineLaws
+pub mod SectionsRoundTrip
+pub mod FindLaws
+pub mod ImageRoundTrip
