@@ -30,6 +30,7 @@ fn kinds_rise(kinds: &[u32]) -> bool
 }
 
 // Whether 18 is not given.
+#[tactic(auto, using(crate::specs::CheckLaws::lines_many))]
 fn lines_right(kinds: &[u32], lengths: &[usize]) -> bool
     ensures { result ≡ lines_right (lines_given kinds.now lengths.now) }
 {

@@ -6,3 +6,6 @@ ruleset laws = (rules, has_it, has_none)
 
 pub returns-in-Nowhere : goal.returns-in-Nowhere
 returns-in-Nowhere c = search laws
+
+pub returns-in-At : goal.returns-in-At
+returns-in-At c = search laws

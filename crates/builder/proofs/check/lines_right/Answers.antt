@@ -1,17 +1,14 @@
 use borrow.Author.Rules.{rules}
-use Rattle.builder.specs.CheckLaws.{lines_uneven, lines_none, lines_many, lines_rise}
+use Rattle.builder.specs.CheckLaws.{lines_uneven, lines_none, lines_rise}
 use Rattle.builder.proofs.check.lines_right.Goals as goal
 
-ruleset laws = (rules, lines_uneven, lines_none, lines_many, lines_rise)
+ruleset laws = (rules, lines_uneven, lines_none, lines_rise)
 
 pub returns-then-kinds-lengths : goal.returns-then-kinds-lengths
 returns-then-kinds-lengths c = search laws
 
 pub returns-then-kinds-lt1 : goal.returns-then-kinds-lt1
 returns-then-kinds-lt1 c = search laws
-
-pub returns-then-kinds-gt-MOST_LINES : goal.returns-then-kinds-gt-MOST_LINES
-returns-then-kinds-gt-MOST_LINES c = search laws
 
 pub returns : goal.returns
 returns c = search laws
