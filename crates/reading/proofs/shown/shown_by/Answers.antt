@@ -15,6 +15,14 @@ returns-then-magnitude-gt-LARGEST_ZERO c =
     let magnitude : c.magnitude.result ≡ nat_abs zero = rw (read_back w64 zero h) at c.magnitude.ensures in
     rw (c.in-By.is, lt-leb (nat_abs zero) (2 ^ 40) (omega arith))
 
+-- By hand, so that another limit for the zero is refused here, and not by a search.
+pub trimmed-shown-requires : goal.trimmed-shown-requires
+trimmed-shown-requires c =
+    let zero = c.in-By.trim.zero in
+    let h : mag zero < 2 ^ 63 = omega arith in
+    let magnitude : c.magnitude.result ≡ nat_abs zero = rw (read_back w64 zero h) at c.magnitude.ensures in
+    (omega arith, rw (to_z-of_z c.ranges.pressure) c.requires)
+
 pub returns-in-Untrimmed : goal.returns-in-Untrimmed
 unfolding shown_by
 returns-in-Untrimmed c = rw (to_z-of_z c.ranges.pressure, to_z-of_z c.ranges.temperature, c.in-Untrimmed.is)
