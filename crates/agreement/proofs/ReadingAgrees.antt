@@ -191,7 +191,8 @@ module _ (level : ℕ) (image : List ℕ) (counts : Counts) where
       by : (v : Verdict) → verdict_of level image ≡ v → Gives (verdict_table level image) v
           → AnswerGives rows (ShowsReading image counts) (after_verdict v (sections_reading (sections image) counts))
       by Accepted e g =
-          answer_after (verdict_table level image) (counts_table image (on_paper counts)) (ShowsReading image counts) (sections_reading (sections image) counts) g
+          answer_after (verdict_table level image) (counts_table image (on_paper counts)) (ShowsReading image counts)
+          (sections_reading (sections image) counts) g
           (sections_give image counts (accepted_readable level image e))
       by (NotAccepted r) e g = first_stays (verdict_table level image) (counts_table image (on_paper counts)) r.number r.detail g
 

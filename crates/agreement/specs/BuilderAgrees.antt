@@ -29,11 +29,13 @@ use Rattle.agreement.specs.BuilderTableLaws.{builder_gives, builder_single}
 -- ---- refused
 
 pub build_refused_exactly : (size : ℕ) (kinds lengths bodies : List ℕ) (number detail : ℕ)
-    → (build_image size (lines_given kinds lengths) bodies ≡ refused (refusal number detail)) ↔ FirstGiven (builder_table size kinds lengths bodies) number detail
+    → (build_image size (lines_given kinds lengths) bodies ≡ refused (refusal number detail))
+    ↔ FirstGiven (builder_table size kinds lengths bodies) number detail
 unfolding build_image
 build_refused_exactly size kinds lengths bodies =
     filling_refused_exactly (builder_table size kinds lengths bodies) (builder_single size kinds lengths bodies)
-    (build_verdict size (lines_given kinds lengths) bodies) (builder_gives size kinds lengths bodies) (image_of (sections_of (lines_given kinds lengths) bodies))
+    (build_verdict size (lines_given kinds lengths) bodies) (builder_gives size kinds lengths bodies)
+    (image_of (sections_of (lines_given kinds lengths) bodies))
 
 -- ---- the image
 
@@ -65,7 +67,8 @@ module _ (kinds lengths bodies image : List ℕ) (even : length kinds ≡ length
       let count : line_count image ≡ length kinds =
       sym (sections_count image) ∙ sym (lines_counted (sections image)) ∙ ap length same ∙ given_counted kinds lengths even in
       let line : (i : ℕ) → i < length kinds
-      → ◌≡◌ {A = KindAndLength} (record { kind = kind_at image i; length = length_at image i }) (record { kind = get_or kinds i 0; length = get_or lengths i 0 }) =
+      → ◌≡◌ {A = KindAndLength} (record { kind = kind_at image i; length = length_at image i })
+      (record { kind = get_or kinds i 0; length = get_or lengths i 0 }) =
       λ i h. sym (line_is image good i (omega arith)) ∙ ap (λ (l : List KindAndLength). get_or l i no_line) same ∙ given_line kinds lengths even i in
       record {
         bytes = b;

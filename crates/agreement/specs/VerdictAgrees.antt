@@ -126,7 +126,8 @@ module _ (level : ℕ) (image : List ℕ) (known : IsLevel level) (good : layout
     body_judges : Judges (row number 0 (BodyWrong image kind Wrong)) (there_verdict (kind_verdict kind) (body_of kind (sections image)))
     body_judges = by (body_of kind (sections image)) refl
       where
-        by : (o : Option (List ℕ)) → body_of kind (sections image) ≡ o → Judges (row number 0 (BodyWrong image kind Wrong)) (there_verdict (kind_verdict kind) o)
+        by : (o : Option (List ℕ)) → body_of kind (sections image) ≡ o
+            → Judges (row number 0 (BodyWrong image kind Wrong)) (there_verdict (kind_verdict kind) o)
         by none e = λ d g. never (ap is_there (sym e ∙ had_is_found image kind good g.1.0 g.1.1))
         by (some body) e =
             judges_as number 0
@@ -190,7 +191,8 @@ module _ (level : ℕ) (image : List ℕ) (known : IsLevel level) (good : layout
   sections_give =
       let ss = sections image in
       let missing = lowest 10 (Missing image) in
-      gives_then (lowest 9 (UnknownLow level image)) (missing ∷ body_rows level) (unknown_verdict level ss) (and_then (missing_verdict ss) (bodies_verdict level ss))
+      gives_then (lowest 9 (UnknownLow level image)) (missing ∷ body_rows level)
+      (unknown_verdict level ss) (and_then (missing_verdict ss) (bodies_verdict level ss))
       (unknown_judges (line_count image) 0 0 (omega arith) (sections_ascend image good) (λ j h. absurd (omega arith)))
       (λ a. gives_then missing (body_rows level) (missing_verdict ss) (bodies_verdict level ss) missing_judges (λ b. bodies_give))
 
@@ -201,7 +203,8 @@ module _ (level : ℕ) (image : List ℕ) where
   unfolding verdict_of
   verdict_gives =
       let rest = sections_verdict level (sections image) in
-      gives_then (row 20 0 (Not (IsLevel level))) (layout_table image ++ sections_table level image) (level_verdict level) (and_then (layout_verdict image) rest)
+      gives_then (row 20 0 (Not (IsLevel level))) (layout_table image ++ sections_table level image)
+      (level_verdict level) (and_then (layout_verdict image) rest)
       (ask_judges 20 0 (is_level level) (passes_fails (level_passes level)))
       (λ known. gives_append (layout_table image) (sections_table level image) (layout_verdict image) rest (layout_gives image)
       (λ good. sections_give level image ((level_passes level).yes (asked (is_level level) 20 0 known)) good))

@@ -196,7 +196,8 @@ has_answer image kind there e = rw e (by (found_in image kind) refl)
 -- ---- a reading
 
 pub reading_answer : (level : ℕ) (image : List ℕ) (counts : Counts) (a : Answer) → a ≡ reading_of level image counts
-    → AnswersReading level image (on_paper counts) (answer_number a) (answer_detail a) (answer_pressure a) (answer_temperature a) (answer_unit a) (answer_mark a)
+    → AnswersReading level image (on_paper counts) (answer_number a) (answer_detail a) (answer_pressure a) (answer_temperature a)
+    (answer_unit a) (answer_mark a)
 reading_answer level image counts (Shown reading) e =
     let s = (reading_shown_exactly level image counts reading).0 (sym e) in
     shown refl refl s.0 s.1

@@ -161,7 +161,8 @@ module _ (level size : ℕ) where
   restored_is (a ∷ image) = refl
 
   judged_is : (image : List ℕ) → length image ≤ room → (v : Verdict) → verdict_of level image ≡ v
-      → image_judged (verdict_of level image) level image (image ++ replicate (size - length image) 0) ≡ ended level size (checked (verdict_of level image) image)
+      → image_judged (verdict_of level image) level image (image ++ replicate (size - length image) 0)
+      ≡ ended level size (checked (verdict_of level image) image)
   judged_is image h Accepted e = rw e
   judged_is image h (Refused r) e =
       let long : length (image ++ replicate (size - length image) 0) ≡ size =

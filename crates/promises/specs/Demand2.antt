@@ -143,7 +143,8 @@ verdict_accepts = verdict_accepted_exactly
 
 -- Lines and bodies are refused by 18, 19 or 17 exactly by the first row given.
 pub build_refused_by : (size : ℕ) (kinds lengths bodies : List ℕ) (number detail : ℕ)
-    → (build_image size (lines_given kinds lengths) bodies ≡ refused (refusal number detail)) ↔ FirstGiven (builder_table size kinds lengths bodies) number detail
+    → (build_image size (lines_given kinds lengths) bodies ≡ refused (refusal number detail))
+    ↔ FirstGiven (builder_table size kinds lengths bodies) number detail
 build_refused_by = build_refused_exactly
 
 -- In every call of the builder, an image is built, and which, exactly where no row is given and it is the image of these lines and bodies:

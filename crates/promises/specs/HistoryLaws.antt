@@ -218,7 +218,8 @@ module _ (level n : ℕ) (buffer : List ℕ) where
   by_image (ended load) image s = holds_result (load_outcome level_of size_of kept_image load) image ((ended_says level_of size_of kept_image load image).1 s)
 
   module _ (events : List Event) where
-    pub lamp_by_last : (is_lit (after_all events start_of).panel ≡ true) ↔ ((image : List ℕ) × LoadSays level_of size_of kept_image (last_after events none) image)
+    pub lamp_by_last : (is_lit (after_all events start_of).panel ≡ true)
+        ↔ ((image : List ℕ) × LoadSays level_of size_of kept_image (last_after events none) image)
     lamp_by_last = rw (stands events) (by_lamp (last_after events none))
 
     pub image_by_last : (image : List ℕ) → LoadSays level_of size_of kept_image (last_after events none) image → image_held (after_all events start_of) ≡ image

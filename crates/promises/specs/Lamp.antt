@@ -130,7 +130,8 @@ module _ (level n : ℕ) (buffer : List ℕ) (events : List Event) where
   lamp_exactly = lamp_by_last level n buffer events
 
   -- A reading is by the image of that load, and so are serial number and date.
-  pub reading_by_last_load : (image : List ℕ) → LastSays image → (counts : Counts) → reading_shown stands_after counts ≡ reading_of (level_kept level) image counts
+  pub reading_by_last_load : (image : List ℕ) → LastSays image → (counts : Counts)
+      → reading_shown stands_after counts ≡ reading_of (level_kept level) image counts
   reading_by_last_load image s counts = rw (level_by_last level n buffer events, image_by_last level n buffer events image s)
 
   pub gauge_by_last_load : (image : List ℕ) → LastSays image → gauge_told stands_after ≡ identified_by (level_kept level) image

@@ -101,7 +101,8 @@ module _ (room : ℕ) where
       (λ (q : eqb c 10 ≡ true).
       let e = eqb-true c 10 q in
       rw (q, e, record_is passed room (length image), inside_is passed)
-      (same_after k image (data_of (record_bytes (bare passed))) text (same_from (k + 1) (image ++ data_of (record_bytes (bare passed))) [] text no_line_feed_first)
+      (same_after k image (data_of (record_bytes (bare passed))) text
+      (same_from (k + 1) (image ++ data_of (record_bytes (bare passed))) [] text no_line_feed_first)
       (judge room (length image) (bare passed))))
       (λ (q : eqb c 10 ≡ false). rw q (same_from k image (passed ++ c ∷ []) text (no_line_feed_more passed c (eqb-false c 10 q))))
 
