@@ -1,6 +1,6 @@
 -- Document 01's sums are the nested polynomial that the maker's manual prints.
 use Rattle.std.proofs.Math.Bool.{and-false}
-use Rattle.std.specs.Prelude.{List, [], ◌⊎◌, ◌≡◌, refl, leb, ℤ, pos, ◌*ℤ◌, get_or}
+use Rattle.std.specs.Prelude.{List, [], ◌⊎◌, ◌≡◌, refl, leb, ℤ, pos, ◌*ℤ◌, get_or, Ok}
 use Rattle.std.proofs.Common.{inl, inr, sym, ◌∙◌, add-zero, zero-add, suc-add, le-leb, lit<}
 use Prim.Native.Nat.{ℕ, zero, suc, ◌+◌, ◌-◌, ◌^◌, ◌≤◌, ◌<◌}
 use native.Mathlib.Omega.{arith}
@@ -16,7 +16,6 @@ use Rattle.laws.specs.Cases.{split}
 use Rattle.sets.specs.Set.{grid_place, row_from, rows_from, grid_of}
 use Rattle.reading.specs.declared.Counts.{Counts}
 use Rattle.reading.specs.declared.Reading.{Reading}
-use Rattle.reading.specs.declared.Answer.TheVariants.{Shown}
 use Rattle.reading.specs.PolynomialLaws.{nothing_turned}
 use Rattle.panel.specs.Reading.{reading_of}
 use Rattle.agreement.specs.NearestLaws.{rounded_is_nearest}
@@ -170,7 +169,7 @@ module _ (body : List ℕ) (right : Not (SetWrong body)) where
 
 -- ---- what is shown
 
-pub shows_by_manual : (level : ℕ) (image : List ℕ) (counts : Counts) (reading : Reading) → reading_of level image counts ≡ Shown reading
+pub shows_by_manual : (level : ℕ) (image : List ℕ) (counts : Counts) (reading : Reading) → reading_of level image counts ≡ Ok reading
     → ShowsByManual image (on_paper counts) reading.pressure reading.temperature reading.unit reading.mark
 shows_by_manual level image counts reading e =
     let r = (reading_shown_exactly level image counts reading).0 e in

@@ -1,5 +1,5 @@
 -- A reading: shown as document 01 says, or refused by the first row of its table.
-use Rattle.std.specs.Prelude.{true, ◌⊎◌, ◌↔◌, ◌≡◌, ℕ, ◌*◌, ◌^◌, ◌≤◌, leb, ℤ, pos, nat_abs}
+use Rattle.std.specs.Prelude.{true, ◌⊎◌, ◌↔◌, ◌≡◌, ℕ, ◌*◌, ◌^◌, ◌≤◌, leb, ℤ, pos, nat_abs, Err, Ok}
 use mathlib.Core.List.{List, [], ◌++◌}
 use Rattle.std.proofs.Common.{inl, inr, ap}
 use Rattle.std.proofs.Math.Option.{Option, none, some}
@@ -12,8 +12,7 @@ use Rattle.paper.specs.Reading.{Counts as PaperCounts, Result, Untrimmed, Trimme
 use Rattle.paper.specs.Verdict.{verdict_table}
 use Rattle.paper.specs.ReadingTable.{channel_table, InSet, set_table, counts_table, reading_table}
 use Rattle.laws.specs.Cases.{decide, positive}
-use Rattle.refusals.specs.declared.Verdict.{Verdict}
-use Rattle.refusals.specs.declared.Verdict.TheVariants.{Accepted, Refused as NotAccepted}
+use Rattle.refusals.specs.Answers.{Verdict}
 use Rattle.refusals.specs.Refusals.{refusal}
 use Rattle.image.specs.Sections.{sections}
 use Rattle.image.specs.Find.{body_of}
@@ -21,10 +20,8 @@ use Rattle.bodies.specs.Identity.{identity_of}
 use Rattle.bodies.specs.Trim.{trim_of}
 use Rattle.reading.specs.declared.Counts.{Counts}
 use Rattle.reading.specs.declared.Reading.{Reading}
-use Rattle.reading.specs.declared.Answer.{Answer}
-use Rattle.reading.specs.declared.Answer.TheVariants.{Shown, Refused}
-use Rattle.reading.specs.declared.value.Value.{Value}
-use Rattle.reading.specs.declared.value.Value.TheVariants.{Known, Refused as NotKnown}
+use Rattle.reading.specs.Answers.{Answer}
+use Rattle.reading.specs.Answers.{Value}
 use Rattle.reading.specs.Gauge.{set_of}
 use Rattle.reading.specs.Frequency.{frequency_of}
 use Rattle.reading.specs.Polynomial.{set_result}
@@ -45,18 +42,18 @@ use Rattle.agreement.specs.ShownAgrees.{mark_is, mark_once, trim_is, shown_once}
 
 -- an answer is a reading of which P holds, or refused as the table says
 abbrev pub AnswerGives : List Row → (P : Reading → Type 0) → Answer → Type 0
-AnswerGives rows P (Shown reading) = NoneGiven rows × P reading
-AnswerGives rows P (Refused r) = FirstGiven rows r.number r.detail
+AnswerGives rows P (Ok reading) = NoneGiven rows × P reading
+AnswerGives rows P (Err r) = FirstGiven rows r.number r.detail
 
 pub answer_after : (rows more : List Row) (P : Reading → Type 0) (a : Answer) → NoneGiven rows → AnswerGives more P a → AnswerGives (rows ++ more) P a
-answer_after rows more P (Shown reading) n g = (none_append rows more n g.0, g.1)
-answer_after rows more P (Refused r) n g = first_append rows more r.number r.detail n g
+answer_after rows more P (Ok reading) n g = (none_append rows more n g.0, g.1)
+answer_after rows more P (Err r) n g = first_append rows more r.number r.detail n g
 
 -- a value, then what is shown of it
 answer_then : (rows more : List Row) (P : ℤ → Type 0) (Q : Reading → Type 0) (v : Value) (next : ℤ → Answer) → ValueGives rows P v
     → ((z : ℤ) → P z → AnswerGives more Q (next z)) → AnswerGives (rows ++ more) Q (and_show v next)
-answer_then rows more P Q (Known z) next g f = answer_after rows more Q (next z) g.0 (f z g.1)
-answer_then rows more P Q (NotKnown r) next g f = first_stays rows more r.number r.detail g
+answer_then rows more P Q (Ok z) next g f = answer_after rows more Q (next z) g.0 (f z g.1)
+answer_then rows more P Q (Err r) next g f = first_stays rows more r.number r.detail g
 
 -- ---- of an image that a panel accepts
 
@@ -190,11 +187,11 @@ module _ (level : ℕ) (image : List ℕ) (counts : Counts) where
     where
       by : (v : Verdict) → verdict_of level image ≡ v → Gives (verdict_table level image) v
           → AnswerGives rows (ShowsReading image counts) (after_verdict v (sections_reading (sections image) counts))
-      by Accepted e g =
+      by (Ok tt) e g =
           answer_after (verdict_table level image) (counts_table image (on_paper counts)) (ShowsReading image counts)
           (sections_reading (sections image) counts) g
           (sections_give image counts (accepted_readable level image e))
-      by (NotAccepted r) e g = first_stays (verdict_table level image) (counts_table image (on_paper counts)) r.number r.detail g
+      by (Err r) e g = first_stays (verdict_table level image) (counts_table image (on_paper counts)) r.number r.detail g
 
   rows_single : Single rows
   rows_single =
@@ -219,21 +216,21 @@ module _ (level : ℕ) (image : List ℕ) (counts : Counts) where
       )
 
   -- a reading is refused by a number with a detail exactly where that is the first row given
-  pub reading_refused_exactly : (number detail : ℕ) → (reading_of level image counts ≡ Refused (refusal number detail)) ↔ FirstGiven rows number detail
+  pub reading_refused_exactly : (number detail : ℕ) → (reading_of level image counts ≡ Err (refusal number detail)) ↔ FirstGiven rows number detail
   reading_refused_exactly number detail = (λ e. rw e at reading_gives, λ f. by (reading_of level image counts) reading_gives f)
     where
-      by : (a : Answer) → AnswerGives rows (ShowsReading image counts) a → FirstGiven rows number detail → a ≡ Refused (refusal number detail)
-      by (Shown reading) g f = absurd (none_or_first rows number detail g.0 f)
-      by (Refused r) g f = let same = first_once rows rows_single r.number r.detail number detail g f in rw (← same.0, ← same.1)
+      by : (a : Answer) → AnswerGives rows (ShowsReading image counts) a → FirstGiven rows number detail → a ≡ Err (refusal number detail)
+      by (Ok reading) g f = absurd (none_or_first rows number detail g.0 f)
+      by (Err r) g f = let same = first_once rows rows_single r.number r.detail number detail g f in rw (← same.0, ← same.1)
 
   -- and shown exactly where no row is given and it is what document 01 works out
-  pub reading_shown_exactly : (reading : Reading) → (reading_of level image counts ≡ Shown reading) ↔ (NoneGiven rows × ShowsReading image counts reading)
+  pub reading_shown_exactly : (reading : Reading) → (reading_of level image counts ≡ Ok reading) ↔ (NoneGiven rows × ShowsReading image counts reading)
   reading_shown_exactly reading = (λ e. rw e at reading_gives, λ g. by (reading_of level image counts) reading_gives g)
     where
-      by : (a : Answer) → AnswerGives rows (ShowsReading image counts) a → NoneGiven rows × ShowsReading image counts reading → a ≡ Shown reading
-      by (Shown other) g h =
+      by : (a : Answer) → AnswerGives rows (ShowsReading image counts) a → NoneGiven rows × ShowsReading image counts reading → a ≡ Ok reading
+      by (Ok other) g h =
           let counted = none_after (verdict_table level image) (counts_table image (on_paper counts)) h.0 in
           let accepted = (verdict_accepted_exactly level image).1 (none_before (verdict_table level image) (counts_table image (on_paper counts)) h.0) in
-          ap Shown (shows_once image counts (accepted_readable level image accepted)
+          ap Ok (shows_once image counts (accepted_readable level image accepted)
           (positive (λ e. counted.1.0 1 (refl, e))) (positive (λ e. counted.1.1.1.1.0 2 (refl, e))) other reading g.1 h.1)
-      by (Refused r) g h = absurd (none_or_first rows r.number r.detail h.0 g)
+      by (Err r) g h = absurd (none_or_first rows r.number r.detail h.0 g)

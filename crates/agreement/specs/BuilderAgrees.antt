@@ -1,5 +1,5 @@
 -- The builder's definition says what document 01 says: when it refuses 18, 19 and 17, and which image it builds.
-use Rattle.std.specs.Prelude.{List, ◌↔◌, ◌≡◌, refl, ℕ, zero, suc, ◌+◌, ◌*◌, ◌≤◌, ◌<◌, eqb, length, drop, get_or}
+use Rattle.std.specs.Prelude.{List, ◌↔◌, ◌≡◌, refl, ℕ, zero, suc, ◌+◌, ◌*◌, ◌≤◌, ◌<◌, eqb, length, drop, get_or, Ok}
 use Rattle.std.proofs.Common.{inl, sym, ap, ◌∙◌, add-zero, zero-add, arith, eqb-true, length-drop, length-take-le, ext_get_or}
 use Rattle.std.proofs.lemmas.Bool.{eqb-false}
 use Rattle.paper.specs.Table.{NoneGiven, FirstGiven}
@@ -7,7 +7,6 @@ use Rattle.paper.specs.Image.{layout_table}
 use Rattle.paper.specs.Builder.{builder_table, IsImageOf}
 use Rattle.laws.specs.Bytes.{Bytes}
 use Rattle.laws.specs.Cases.{split, decide}
-use Rattle.refusals.specs.declared.Verdict.TheVariants.{Accepted}
 use Rattle.refusals.specs.Refusals.{refusal, result, refused}
 use Rattle.image.specs.Contents.{line_count, line_place, kind_at, offset_at, length_at}
 use Rattle.image.specs.Layout.{body_at, layout_verdict}
@@ -47,7 +46,7 @@ line_said image (suc left) i zero h = rw (add-zero i)
 line_said image (suc left) i (suc j) h = let next : i + 1 + j ≡ i + suc j = omega arith in rw next at (line_said image left (i + 1) j (omega arith))
 
 -- in a good layout the lines of the sections are the contents lines
-line_is : (image : List ℕ) → layout_verdict image ≡ Accepted → (i : ℕ) → i < line_count image
+line_is : (image : List ℕ) → layout_verdict image ≡ Ok tt → (i : ℕ) → i < line_count image
     → get_or (lines_of (sections image)) i no_line ≡ record { kind = kind_at image i; length = length_at image i }
 unfolding sections
 line_is image good i h =
@@ -57,7 +56,7 @@ line_is image good i h =
     rw (zero-add i, long) at (line_said image (line_count image) 0 i h)
 
 -- the image is that of the lines where its sections have these kinds and lengths, and the bodies joined are these
-module _ (kinds lengths bodies image : List ℕ) (even : length kinds ≡ length lengths) (b : Bytes image) (good : layout_verdict image ≡ Accepted) where
+module _ (kinds lengths bodies image : List ℕ) (even : length kinds ≡ length lengths) (b : Bytes image) (good : layout_verdict image ≡ Ok tt) where
   bodies_are : drop (line_place (line_count image)) image ≡ bodies_of (sections image)
   bodies_are = rw (image_of_sections image b good, sections_count image) at (image_bodies (sections image))
 

@@ -1,5 +1,5 @@
 -- The finder's definitions say what document 01 says: a kind's body, where it stands, and yes exactly where the layout is good and the kind is there.
-use Rattle.std.specs.Prelude.{List, ◌↔◌, ◌≡◌, refl}
+use Rattle.std.specs.Prelude.{List, ◌↔◌, ◌≡◌, refl, Err, Ok}
 use Rattle.std.proofs.Math.Option.{Option, none, some}
 use Rattle.std.proofs.Common.{sym, ◌∙◌, arith}
 use Rattle.std.proofs.Math.Path.{ap}
@@ -7,8 +7,7 @@ use Prim.Native.Nat.{ℕ}
 use Rattle.paper.specs.Words.{Not}
 use Rattle.paper.specs.Table.{NoneGiven}
 use Rattle.paper.specs.Image.{offset_of, HasKind, HasBody, layout_table}
-use Rattle.refusals.specs.declared.Verdict.{Verdict}
-use Rattle.refusals.specs.declared.Verdict.TheVariants.{Accepted, Refused}
+use Rattle.refusals.specs.Answers.{Verdict}
 use Rattle.image.specs.Contents.{line_count, offset_at}
 use Rattle.image.specs.Layout.{layout_verdict}
 use Rattle.image.specs.Sections.{sections}
@@ -19,9 +18,9 @@ use Rattle.agreement.specs.LayoutAgrees.{layout_accepted_exactly}
 use Rattle.agreement.specs.KindsAgree.{given_by_line, line_gives, found_is_had, had_is_found}
 
 -- what is found says that the layout is good
-good_where : {A : Type 0} (v : Verdict) (o : Option A) (a : A) → where_good v o ≡ some a → (v ≡ Accepted) × (o ≡ some a)
-good_where Accepted o a e = (refl, e)
-good_where (Refused r) o a e = let z : ◌≡◌ {A = ℕ} 0 1 = cc in absurd (omega arith)
+good_where : {A : Type 0} (v : Verdict) (o : Option A) (a : A) → where_good v o ≡ some a → (v ≡ Ok tt) × (o ≡ some a)
+good_where (Ok tt) o a e = (refl, e)
+good_where (Err r) o a e = let z : ◌≡◌ {A = ℕ} 0 1 = cc in absurd (omega arith)
 
 module _ (image : List ℕ) (kind : ℕ) where
   pub found_exactly : (body : List ℕ) → (found image kind ≡ some body) ↔ (NoneGiven (layout_table image) × HasBody image kind body)

@@ -1,5 +1,5 @@
 -- Frequencies, and X: known as document 01 says, or refused by 21 to 24 where it says so.
-use Rattle.std.specs.Prelude.{◌&&◌, ◌⊎◌, ◌≡◌, ℕ, ◌*◌, ◌^◌, ◌≤◌, eqb, ℤ, ◌-ℤ◌, ◌*ℤ◌, ◌<ℤ◌}
+use Rattle.std.specs.Prelude.{◌&&◌, ◌⊎◌, ◌≡◌, ℕ, ◌*◌, ◌^◌, ◌≤◌, eqb, ℤ, ◌-ℤ◌, ◌*ℤ◌, ◌<ℤ◌, Ok}
 use mathlib.Core.List.{[], ◌∷◌}
 use native.Mathlib.Omega.{arith}
 use borrow.Author.Tests.{leb-true, eqb-true, eqb-false}
@@ -16,7 +16,6 @@ use Rattle.laws.specs.Cases.{decide}
 use Rattle.refusals.specs.Refusals.{ask}
 use Rattle.refusals.specs.VerdictLaws.{asked}
 use Rattle.whole.specs.Rounded.{rounded}
-use Rattle.reading.specs.declared.value.Value.TheVariants.{Known}
 use Rattle.reading.specs.Value.{given}
 use Rattle.reading.specs.Frequency.{hertz, frequency_of, scaled_of, prescaled_of}
 use Rattle.agreement.specs.TestsLaws.{Fails, fails_le, fails_leℤ, fails_and, fails_as, fails_outside, ask_judges}
@@ -52,7 +51,7 @@ module _ (channel ns nr : ℕ) where
       let row22 = row 22 channel (nr ≡ 0) in
       let row23 = row 23 channel FrequencyOutside in
       let in_limits = le_z (pos 655360000) (hertz ns nr) && le_z (hertz ns nr) (pos highest_frequency) in
-      let known = Known (hertz ns nr) in
+      let known = Ok (hertz ns nr) in
       given_then (row 21 channel (Outside 1 1048576 ns)) (row22 ∷ row23 ∷ []) Counted (ask (leb 1 ns && leb ns 1048576) 21 channel)
       (given (ask (leb 1 nr) 22 channel) (given (ask in_limits 23 channel) known))
       (ask_judges 21 channel (leb 1 ns && leb ns 1048576) (fails_outside 1 1048576 ns))

@@ -1,5 +1,5 @@
 -- What a kind's contents line gives: the body of a kind among an image's sections is document 01's, the bytes that the line states.
-use Rattle.std.specs.Prelude.{◌≡◌, refl, Bool, true, false, cond, List, [], eqb}
+use Rattle.std.specs.Prelude.{◌≡◌, refl, Bool, true, false, cond, List, [], eqb, Ok}
 use Rattle.std.proofs.Common.{sym, ap, ◌∙◌}
 use Rattle.std.proofs.Math.Option.{Option, none, some}
 use Prim.Native.Nat.{ℕ, zero, suc, ◌+◌, ◌≤◌, ◌<◌}
@@ -8,7 +8,6 @@ use borrow.Author.Tests.{eqb-true, eq-eqb, ne_eqb}
 use Rattle.paper.specs.Words.{Not}
 use Rattle.paper.specs.Image.{HasKind, HasBody}
 use Rattle.laws.specs.Cases.{split, decide}
-use Rattle.refusals.specs.declared.Verdict.TheVariants.{Accepted}
 use Rattle.image.specs.Contents.{line_count, kind_at}
 use Rattle.image.specs.Layout.{body_at, layout_verdict}
 use Rattle.image.specs.Sections.{sections_from, sections}
@@ -74,7 +73,7 @@ module _ {A : Type 0} (image : List ℕ) (kind : ℕ) (given : (line : ℕ) → 
       (record { line = at.line; there = rw number_same (omega (arith, at.below)); named = rw number_same at.named }, at.is)
 
   -- and a line gives it where kinds rise
-  pub line_gives : layout_verdict image ≡ Accepted → (h : HasKind image kind) → from (line_count image) 0 ≡ some (given h.line)
+  pub line_gives : layout_verdict image ≡ Ok tt → (h : HasKind image kind) → from (line_count image) 0 ≡ some (given h.line)
   line_gives good h =
       of_at (line_count image) 0 0 h.line (unfold sections in sections_ascend image good) (omega arith) (omega (arith, rw number_same at h.there))
       (rw number_same at h.named)
@@ -100,7 +99,7 @@ module _ (image : List ℕ) (kind : ℕ) where
       by (some body) e = absurd (f (found_is_had body e).has)
 
   -- and the other way round in a good layout, whose kinds rise
-  module _ (good : layout_verdict image ≡ Accepted) where
+  module _ (good : layout_verdict image ≡ Ok tt) where
     kind_found : (h : HasKind image kind) → body_of kind (sections image) ≡ some (body_at image h.line)
     unfolding sections sections_from body_of
     kind_found h = line_gives image kind (body_at image) body_from (λ i. refl) (λ left i. refl) good h

@@ -1,5 +1,5 @@
 -- The layout's verdict is document 01's: the first of 5 to 8 that is given.
-use Rattle.std.specs.Prelude.{Bool, true, false, ◌&&◌, ◌↔◌, ◌≡◌, refl, eqb, length}
+use Rattle.std.specs.Prelude.{Bool, true, false, ◌&&◌, ◌↔◌, ◌≡◌, refl, eqb, length, Err, Ok}
 use Rattle.std.proofs.Math.Bool.{and_assoc}
 use mathlib.Core.List.{List, [], ◌∷◌}
 use Rattle.std.proofs.Common.{inl}
@@ -15,8 +15,7 @@ use Rattle.paper.specs.Table.{Row, row, NoneGiven, FirstGiven}
 use Rattle.paper.specs.Image.{line_count, kind_of, zero_byte_of, offset_of, length_of, sum_of, StartWrong, CountWrong, kind_before, end_before, BreaksLayout, SumWrong, layout_table}
 use Rattle.laws.specs.Cases.{split}
 use Rattle.numbers.specs.Fields.{number_at}
-use Rattle.refusals.specs.declared.Verdict.{Verdict}
-use Rattle.refusals.specs.declared.Verdict.TheVariants.{Accepted, Refused}
+use Rattle.refusals.specs.Answers.{Verdict}
 use Rattle.refusals.specs.Refusals.{refusal, ask, and_then}
 use Rattle.refusals.specs.VerdictLaws.{both_asked}
 use Rattle.image.specs.Contents.{line_right, start_verdict, count_verdict, lines_verdict, contents_verdict}
@@ -134,8 +133,8 @@ module _ (image : List ℕ) where
 
   -- a layout is refused by a number with a detail exactly where document 01 says so, and good exactly where none of 5 to 8 is given
   pub layout_refused_exactly : (number detail : ℕ)
-      → (layout_verdict image ≡ Refused (refusal number detail)) ↔ FirstGiven (layout_table image) number detail
+      → (layout_verdict image ≡ Err (refusal number detail)) ↔ FirstGiven (layout_table image) number detail
   layout_refused_exactly = refused_exactly (layout_table image) layout_single (layout_verdict image) layout_gives
 
-  pub layout_accepted_exactly : (layout_verdict image ≡ Accepted) ↔ NoneGiven (layout_table image)
+  pub layout_accepted_exactly : (layout_verdict image ≡ Ok tt) ↔ NoneGiven (layout_table image)
   layout_accepted_exactly = accepted_exactly (layout_table image) layout_single (layout_verdict image) layout_gives

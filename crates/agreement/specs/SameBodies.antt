@@ -1,10 +1,9 @@
 -- An image of bytes with a good layout is told by its bodies: an image laid anew with the same bodies by kind is the same image.
-use Rattle.std.specs.Prelude.{List, ◌↔◌, ◌≡◌, refl, ℕ}
+use Rattle.std.specs.Prelude.{List, ◌↔◌, ◌≡◌, refl, ℕ, Ok}
 use Rattle.std.proofs.Math.Option.{Option, none, some}
 use Rattle.paper.specs.Table.{NoneGiven}
 use Rattle.paper.specs.Image.{HasBody, layout_table}
 use Rattle.laws.specs.Bytes.{Bytes}
-use Rattle.refusals.specs.declared.Verdict.TheVariants.{Accepted}
 use Rattle.image.specs.Layout.{layout_verdict}
 use Rattle.image.specs.Sections.{sections}
 use Rattle.image.specs.Find.{body_of}
@@ -13,7 +12,7 @@ use Rattle.agreement.specs.LayoutAgrees.{layout_accepted_exactly}
 use Rattle.agreement.specs.KindsAgree.{found_is_had, had_is_found}
 
 -- a kind's body is found in both images or in neither
-pub found_same : (image image' : List ℕ) (kind : ℕ) → layout_verdict image ≡ Accepted → layout_verdict image' ≡ Accepted
+pub found_same : (image image' : List ℕ) (kind : ℕ) → layout_verdict image ≡ Ok tt → layout_verdict image' ≡ Ok tt
     → ((body : List ℕ) → HasBody image kind body ↔ HasBody image' kind body) → body_of kind (sections image) ≡ body_of kind (sections image')
 found_same image image' kind good good' same = by (body_of kind (sections image)) (body_of kind (sections image')) refl refl
   where

@@ -1,6 +1,6 @@
 -- A set's result: known as document 01 says, or refused by 24, 25 or 26 where it says so.
 use Rattle.std.proofs.Math.Bool.{and-false}
-use Rattle.std.specs.Prelude.{List, [], ◌∷◌, ◌≡◌, refl, ℕ, zero, suc, ◌+◌, ◌-◌, ◌*◌, ◌^◌, ◌≤◌, ◌<◌, eqb, ℤ, pos, ◌-ℤ◌, ◌*ℤ◌, length}
+use Rattle.std.specs.Prelude.{List, [], ◌∷◌, ◌≡◌, refl, ℕ, zero, suc, ◌+◌, ◌-◌, ◌*◌, ◌^◌, ◌≤◌, ◌<◌, eqb, ℤ, pos, ◌-ℤ◌, ◌*ℤ◌, length, Err, Ok}
 use Rattle.std.proofs.Common.{inl, inr, ⊎_elim, sym, ap, ◌∙◌, arith, le-leb, eqb-true, lit<}
 use Rattle.std.proofs.lemmas.Bool.{lt-leb, eqb-false}
 use Rattle.limits.specs.Limits.{largest_sum}
@@ -13,8 +13,7 @@ use Rattle.paper.specs.ReadingTable.{XPBeyond, XTBeyond, SumBeyond, ResultBeyond
 use Rattle.laws.specs.Cases.{split, decide}
 use Rattle.numbers.specs.Fields.{number_at}
 use Rattle.sets.specs.Set.{prescales_of, grid_place, row_from, rows_from, grid_of}
-use Rattle.reading.specs.declared.value.Value.{Value}
-use Rattle.reading.specs.declared.value.Value.TheVariants.{Known, Refused}
+use Rattle.reading.specs.Answers.{Value}
 use Rattle.reading.specs.Value.{with_value, within}
 use Rattle.reading.specs.Frequency.{prescaled_of}
 use Rattle.reading.specs.Gauge.{set_of}
@@ -29,7 +28,7 @@ use Rattle.agreement.specs.ChainLaws.{chain, zeros_chain, TermGives, ChainGives,
 -- ---- the sums of the code as chains
 
 row_chain : (kind : ℕ) (x : ℤ) (body : List ℕ) (r left place : ℕ)
-    → row_sum kind x (row_from body r left place) ≡ chain kind x (λ (p : ℕ). Known (grid_place body r p)) left place
+    → row_sum kind x (row_from body r left place) ≡ chain kind x (λ (p : ℕ). Ok (grid_place body r p)) left place
 unfolding nested_sum row_from chain
 row_chain kind x body r zero place = refl
 row_chain kind x body r (suc left) place =
@@ -97,16 +96,16 @@ module _ (body : List ℕ) (right : Not (SetWrong body)) where
         ChainGives kind xt (temperature_order body) (λ (p : ℕ) (c : ℤ). Coefficient body r p c) (λ i e f g k. g ∙ sym k) (λ i. Unit {0}) (λ i. ⊥) 0
 
     row_gives : (r : ℕ) → r ≤ pressure_order body → RowGives r (row_sum kind xt (row_from body r 5 0))
-    row_gives r h = rw (row_chain kind xt body r 5 0) (row_is (chain kind xt (λ (p : ℕ). Known (grid_place body r p)) 5 0) places)
+    row_gives r h = rw (row_chain kind xt body r 5 0) (row_is (chain kind xt (λ (p : ℕ). Ok (grid_place body r p)) 5 0) places)
       where
-        places : PlacesGive r (chain kind xt (λ (p : ℕ). Known (grid_place body r p)) 5 0)
+        places : PlacesGive r (chain kind xt (λ (p : ℕ). Ok (grid_place body r p)) 5 0)
         places =
             chain_gives kind xt (temperature_order body) (λ (p : ℕ) (c : ℤ). Coefficient body r p c) (λ i e f g k. g ∙ sym k) (λ i. Unit {0}) (λ i. ⊥)
-            (λ (p : ℕ). Known (grid_place body r p)) (λ p k. (place_there r p h k, tt)) (λ p k. ap Known (place_absent r p k)) 5 0 (omega (arith, few_places))
+            (λ (p : ℕ). Ok (grid_place body r p)) (λ p k. (place_there r p h k, tt)) (λ p k. ap Ok (place_absent r p k)) 5 0 (omega (arith, few_places))
 
         row_is : (v : Value) → PlacesGive r v → RowGives r v
-        row_is (Known z) g = (g.0 (omega arith), λ p k w. (g.2 p (omega arith) k).1 w)
-        row_is (Refused q) g = (g.0, (g.1.0, g.1.2, ⊎_elim (λ none. absurd none) (λ w. w) g.1.3))
+        row_is (Ok z) g = (g.0 (omega arith), λ p k w. (g.2 p (omega arith) k).1 w)
+        row_is (Err q) g = (g.0, (g.1.0, g.1.2, ⊎_elim (λ none. absurd none) (λ w. w) g.1.3))
 
     -- ---- the rows
 
@@ -116,14 +115,14 @@ module _ (body : List ℕ) (right : Not (SetWrong body)) where
     rows_once : (c d : ℤ) → RowsFrom body xp xt 0 c → RowsFrom body xp xt 0 d → c ≡ d
     rows_once c d = sum_once xp (λ (r : ℕ) (e : ℤ). RowFrom body xt r 0 e) row_once (pressure_order body - 0) 0 c d
 
-    rows_absent : (r : ℕ) → pressure_order body < r → row_sum kind xt (row_from body r 5 0) ≡ Known (pos 0)
+    rows_absent : (r : ℕ) → pressure_order body < r → row_sum kind xt (row_from body r 5 0) ≡ Ok (pos 0)
     rows_absent r h =
-        row_chain kind xt body r 5 0 ∙ zeros_chain kind xt (λ (p : ℕ). Known (grid_place body r p)) (λ p. ap Known (row_absent r p h)) 5 0
+        row_chain kind xt body r 5 0 ∙ zeros_chain kind xt (λ (p : ℕ). Ok (grid_place body r p)) (λ p. ap Ok (row_absent r p h)) 5 0
 
     abbrev RowsGive : Value → Type 0
     RowsGive = ChainGives kind xp (pressure_order body) (λ (r : ℕ) (c : ℤ). RowFrom body xt r 0 c) row_once RowGood RowBad 0
 
-    none_beyond : (z : ℤ) → RowsGive (Known z) → Not RunningBeyond
+    none_beyond : (z : ℤ) → RowsGive (Ok z) → Not RunningBeyond
     none_beyond z g (y, inl (r, p, h, k, s), b) = (g.2 r (omega arith) h).0 p k (y, s, b)
     none_beyond z g (y, inr (r, h, s), b) = (g.2 r (omega arith) h).1 (y, s, b)
 
@@ -137,8 +136,8 @@ module _ (body : List ℕ) (right : Not (SetWrong body)) where
             (λ (q : ℕ). row_sum kind xt (row_from body q 5 0)) row_gives rows_absent 5 0 (omega (arith, few_rows))
 
         sum_is : (v : Value) → RowsGive v → ValueGives (row 25 kind C ∷ []) (λ (z : ℤ). RowsFrom body xp xt 0 z) v
-        sum_is (Known z) g = ((λ d w. none_beyond z g (out w.1), tt), g.0 (omega arith))
-        sum_is (Refused q) g =
+        sum_is (Ok z) g = ((λ d w. none_beyond z g (out w.1), tt), g.0 (omega arith))
+        sum_is (Err q) g =
             let j = g.1 in
             rw g.0
             (inl (

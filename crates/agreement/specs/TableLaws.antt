@@ -1,28 +1,27 @@
 -- Laws of a table of refusals: a check is a row, checks in order are rows in order, and a table gives one answer.
-use Rattle.std.specs.Prelude.{List, [], ◌∷◌, ◌++◌, ◌↔◌, ◌≡◌, refl, ℕ, ◌≤◌, ◌<◌}
+use Rattle.std.specs.Prelude.{List, [], ◌∷◌, ◌++◌, ◌↔◌, ◌≡◌, refl, ℕ, ◌≤◌, ◌<◌, Err, Ok}
 use Rattle.std.proofs.Common.{inl, inr, sym, ◌∙◌, arith}
 use Rattle.paper.specs.Words.{Lowest}
 use Rattle.paper.specs.Table.{Row, NotGiven, NoneGiven, FirstGiven}
 use Rattle.laws.specs.Cases.{split}
-use Rattle.refusals.specs.declared.Verdict.{Verdict}
-use Rattle.refusals.specs.declared.Verdict.TheVariants.{Accepted, Refused}
+use Rattle.refusals.specs.Answers.{Verdict}
 use Rattle.refusals.specs.Refusals.{refusal, and_then, result, refused, checked}
 use Rattle.refusals.specs.VerdictLaws.{checked_result, checked_refused}
 
 -- ---- what a table says to a verdict
 
 abbrev pub Gives : List Row → Verdict → Type 0
-Gives rows Accepted = NoneGiven rows
-Gives rows (Refused r) = FirstGiven rows r.number r.detail
+Gives rows (Ok tt) = NoneGiven rows
+Gives rows (Err r) = FirstGiven rows r.number r.detail
 
 -- one check is one row: it passes where the row is not given, and refuses by the row
 abbrev pub Judges : Row → Verdict → Type 0
-Judges r Accepted = NotGiven r
-Judges r (Refused q) = (q.number ≡ r.number) × r.given q.detail
+Judges r (Ok tt) = NotGiven r
+Judges r (Err q) = (q.number ≡ r.number) × r.given q.detail
 
 pub judged_alone : (r : Row) (v : Verdict) → Judges r v → Gives (r ∷ []) v
-judged_alone r Accepted j = (j, tt)
-judged_alone r (Refused q) j = inl j
+judged_alone r (Ok tt) j = (j, tt)
+judged_alone r (Err q) j = inl j
 
 pub none_append : (rows more : List Row) → NoneGiven rows → NoneGiven more → NoneGiven (rows ++ more)
 none_append [] more n m = m
@@ -46,13 +45,13 @@ first_stays (r ∷ rows) more number detail (inl g) = inl g
 first_stays (r ∷ rows) more number detail (inr (n, f)) = inr (n, first_stays rows more number detail f)
 
 -- some checks, then others
-pub gives_append : (rows more : List Row) (v w : Verdict) → Gives rows v → (v ≡ Accepted → Gives more w) → Gives (rows ++ more) (and_then v w)
-gives_append rows more Accepted Accepted g f = none_append rows more g (f refl)
-gives_append rows more Accepted (Refused q) g f = first_append rows more q.number q.detail g (f refl)
-gives_append rows more (Refused q) w g f = first_stays rows more q.number q.detail g
+pub gives_append : (rows more : List Row) (v w : Verdict) → Gives rows v → (v ≡ Ok tt → Gives more w) → Gives (rows ++ more) (and_then v w)
+gives_append rows more (Ok _) (Ok _) g f = none_append rows more g (f refl)
+gives_append rows more (Ok tt) (Err q) g f = first_append rows more q.number q.detail g (f refl)
+gives_append rows more (Err q) w g f = first_stays rows more q.number q.detail g
 
 -- one check, then the others
-pub gives_then : (r : Row) (rows : List Row) (v w : Verdict) → Judges r v → (v ≡ Accepted → Gives rows w) → Gives (r ∷ rows) (and_then v w)
+pub gives_then : (r : Row) (rows : List Row) (v w : Verdict) → Judges r v → (v ≡ Ok tt → Gives rows w) → Gives (r ∷ rows) (and_then v w)
 gives_then r rows v w j f = gives_append (r ∷ []) rows v w (judged_alone r v j) f
 
 -- ---- one answer
@@ -91,20 +90,20 @@ first_once (r ∷ rows) s n d m e (inr (a, f)) (inr (b, g)) = first_once rows s.
 
 module _ (rows : List Row) (single : Single rows) (v : Verdict) (gives : Gives rows v) where
   -- refused by a number with a detail exactly where that is the first row given
-  pub refused_exactly : (number detail : ℕ) → (v ≡ Refused (refusal number detail)) ↔ FirstGiven rows number detail
+  pub refused_exactly : (number detail : ℕ) → (v ≡ Err (refusal number detail)) ↔ FirstGiven rows number detail
   refused_exactly number detail = (λ e. rw e at gives, λ f. by v gives f)
     where
-      by : (w : Verdict) → Gives rows w → FirstGiven rows number detail → w ≡ Refused (refusal number detail)
-      by Accepted g f = absurd (none_or_first rows number detail g f)
-      by (Refused q) g f = let same = first_once rows single q.number q.detail number detail g f in rw (← same.0, ← same.1)
+      by : (w : Verdict) → Gives rows w → FirstGiven rows number detail → w ≡ Err (refusal number detail)
+      by (Ok tt) g f = absurd (none_or_first rows number detail g f)
+      by (Err q) g f = let same = first_once rows single q.number q.detail number detail g f in rw (← same.0, ← same.1)
 
   -- accepted exactly where no row is given
-  pub accepted_exactly : (v ≡ Accepted) ↔ NoneGiven rows
+  pub accepted_exactly : (v ≡ Ok tt) ↔ NoneGiven rows
   accepted_exactly = (λ e. rw e at gives, λ n. by v gives n)
     where
-      by : (w : Verdict) → Gives rows w → NoneGiven rows → w ≡ Accepted
-      by Accepted g n = refl
-      by (Refused q) g n = absurd (none_or_first rows q.number q.detail n g)
+      by : (w : Verdict) → Gives rows w → NoneGiven rows → w ≡ Ok tt
+      by (Ok tt) g n = refl
+      by (Err q) g n = absurd (none_or_first rows q.number q.detail n g)
 
   -- the same of a buffer that is filled after the checks
   pub filling_refused_exactly : (x : List ℕ) (number detail : ℕ) → (checked v x ≡ refused (refusal number detail)) ↔ FirstGiven rows number detail

@@ -1,5 +1,5 @@
 -- Tests that fail, or pass, exactly where a condition of document 01 holds; and checks that are made of them.
-use Rattle.std.specs.Prelude.{Bool, true, false, not, ◌&&◌, ◌||◌, List, [], ◌∷◌, ◌⊎◌, ◌≡◌, refl, ℕ, zero, suc, ◌+◌, ◌≤◌, ◌<◌, T, leb, ltb, eqb, ℤ, pos, neg_ℤ, nat_abs, ◌<ℤ◌}
+use Rattle.std.specs.Prelude.{Bool, true, false, not, ◌&&◌, ◌||◌, List, [], ◌∷◌, ◌⊎◌, ◌≡◌, refl, ℕ, zero, suc, ◌+◌, ◌≤◌, ◌<◌, T, leb, ltb, eqb, ℤ, pos, neg_ℤ, nat_abs, ◌<ℤ◌, Err, Ok}
 use Rattle.std.proofs.Common.{inl, inr, ⊎_elim, sym, arith, ltb-true, ltb-false, leb-true, leb-false, eqb-true}
 use Rattle.std.proofs.lemmas.Bool.{eqb-false}
 use Rattle.std.specs.Int.Signed.{le_z, lt_z}
@@ -7,8 +7,7 @@ use Rattle.paper.specs.Words.{Not, Outside, Beyond}
 use Rattle.paper.specs.Table.{row}
 use Rattle.laws.specs.Cases.{split, decide, never}
 use Rattle.laws.specs.Order.{less_otherwiseℤ, far_below, far_above}
-use Rattle.refusals.specs.declared.Verdict.{Verdict}
-use Rattle.refusals.specs.declared.Verdict.TheVariants.{Accepted, Refused}
+use Rattle.refusals.specs.Answers.{Verdict}
 use Rattle.refusals.specs.Refusals.{ask}
 use Rattle.refusals.specs.FieldsVerdict.{Field, fields_verdict, fields_from}
 use Rattle.agreement.specs.TableLaws.{Judges}
@@ -119,8 +118,8 @@ ask_judges number detail true f = λ d g. f.good refl g.1
 ask_judges number detail false f = (refl, (refl, f.bad refl))
 
 pub judges_as : (number detail : ℕ) {P Q : Type 0} → (P → Q) → (Q → P) → (v : Verdict) → Judges (row number detail P) v → Judges (row number detail Q) v
-judges_as number detail f g Accepted j = λ d h. j d (h.0, g h.1)
-judges_as number detail f g (Refused r) j = (j.0, (j.1.0, f j.1.1))
+judges_as number detail f g (Ok tt) j = λ d h. j d (h.0, g h.1)
+judges_as number detail f g (Err r) j = (j.0, (j.1.0, f j.1.1))
 
 -- ---- a body's fields
 

@@ -1,5 +1,5 @@
 -- The verdict on an image is document 01's: 20, then 5 to 13, 15, 16, the first that is given.
-use Rattle.std.specs.Prelude.{Bool, ◌||◌, ◌⊎◌, ◌↔◌, ◌≡◌, eqb}
+use Rattle.std.specs.Prelude.{Bool, ◌||◌, ◌⊎◌, ◌↔◌, ◌≡◌, eqb, Err, Ok}
 use mathlib.Core.List.{List, [], ◌∷◌, ◌++◌}
 use Rattle.std.proofs.Common.{inl, inr, ⊎_elim, sym, ap, ◌∙◌, add-one, arith, leb-true, leb-false}
 use Rattle.std.proofs.Math.Option.{Option, none, some}
@@ -12,7 +12,6 @@ use Rattle.paper.specs.Bodies.{IdentityWrong, SetWrong, TrimWrong, NoteWrong}
 use Rattle.paper.specs.Verdict.{IsLevel, Knows, UnknownLow, Missing, BodyWrong, sections_table, verdict_table}
 use Rattle.limits.specs.Limits.{last_level}
 use Rattle.laws.specs.Cases.{split, decide, never}
-use Rattle.refusals.specs.declared.Verdict.TheVariants.{Accepted, Refused}
 use Rattle.refusals.specs.Refusals.{refusal, and_then}
 use Rattle.refusals.specs.VerdictLaws.{asked}
 use Rattle.image.specs.Contents.{line_count, kind_at}
@@ -62,7 +61,7 @@ knows_passes level (inr e) kind =
     (⊎_elim (λ a. inl (a.1, a.2)) (λ a. inr (⊎_elim inl (λ b. inr (inl b)) a.1)))
     (three_then kind (passes_or (passes_eq kind 4) (passes_or (passes_eq kind 129) passes_never))))
 
-module _ (level : ℕ) (image : List ℕ) (known : IsLevel level) (good : layout_verdict image ≡ Accepted) where
+module _ (level : ℕ) (image : List ℕ) (known : IsLevel level) (good : layout_verdict image ≡ Ok tt) where
   -- ---- 9
 
   abbrev Stops : (kind : ℕ) → Type 0
@@ -218,10 +217,10 @@ module _ (level : ℕ) (image : List ℕ) where
 
   -- an image is refused by a number with a detail exactly where document 01 says so, and accepted exactly where no row is given
   pub verdict_refused_exactly : (number detail : ℕ)
-      → (verdict_of level image ≡ Refused (refusal number detail)) ↔ FirstGiven (verdict_table level image) number detail
+      → (verdict_of level image ≡ Err (refusal number detail)) ↔ FirstGiven (verdict_table level image) number detail
   verdict_refused_exactly = refused_exactly (verdict_table level image) verdict_single (verdict_of level image) verdict_gives
 
-  pub verdict_accepted_exactly : (verdict_of level image ≡ Accepted) ↔ NoneGiven (verdict_table level image)
+  pub verdict_accepted_exactly : (verdict_of level image ≡ Ok tt) ↔ NoneGiven (verdict_table level image)
   verdict_accepted_exactly = accepted_exactly (verdict_table level image) verdict_single (verdict_of level image) verdict_gives
 
 -- ---- what an acceptance says of the bodies that a reading takes
@@ -232,7 +231,7 @@ none_without_lowest P n zero = λ j h. absurd (omega arith)
 none_without_lowest P n (suc i) = let below = none_without_lowest P n i in none_next P i below (λ p. n i (p, below))
 
 pub record Readable (image : List ℕ) : Type 0 where
-  pub good : layout_verdict image ≡ Accepted
+  pub good : layout_verdict image ≡ Ok tt
   pub has_identity : HasKind image 1
   pub has_pressure_set : HasKind image 2
   pub has_temperature_set : HasKind image 3
@@ -240,14 +239,14 @@ pub record Readable (image : List ℕ) : Type 0 where
   pub temperature_set_right : (body : List ℕ) → HasBody image 3 body → Not (SetWrong body)
   pub trim_right : (body : List ℕ) → HasBody image 4 body → Not (TrimWrong body)
 
-module _ (level : ℕ) (image : List ℕ) (accepted : verdict_of level image ≡ Accepted) where
+module _ (level : ℕ) (image : List ℕ) (accepted : verdict_of level image ≡ Ok tt) where
   rows : NoneGiven (verdict_table level image)
   rows = (verdict_accepted_exactly level image).0 accepted
 
   kinds : NoneGiven (sections_table level image)
   kinds = none_after (row 20 0 (Not (IsLevel level)) ∷ layout_table image) (sections_table level image) rows
 
-  laid : layout_verdict image ≡ Accepted
+  laid : layout_verdict image ≡ Ok tt
   laid = (layout_accepted_exactly image).1 (none_before (layout_table image) (sections_table level image) rows.1)
 
   -- kinds 1, 2 and 3 are there

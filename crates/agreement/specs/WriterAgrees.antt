@@ -7,7 +7,7 @@ use Rattle.paper.specs.Table.{row, NoneGiven, FirstGiven}
 use Rattle.paper.specs.Writer.{TextLength, full_records, and_one_more, writer_table}
 use Rattle.laws.specs.Bytes.{Bytes}
 use Rattle.laws.specs.Cases.{split}
-use Rattle.refusals.specs.declared.Verdict.{Verdict}
+use Rattle.refusals.specs.Answers.{Verdict}
 use Rattle.refusals.specs.Refusals.{refusal, result, refused, ask, and_then}
 use Rattle.hextext.specs.Written.{text_of, text_length, write_image}
 use Rattle.hextext.specs.WrittenLaws.{text_length_full, text_length_rest}

@@ -30,14 +30,14 @@ use refusals::{FilledForC, VerdictForC};
 pub fn bjorkneve_read(text: &[u8], image: &mut [u8]) -> FilledForC
     ensures { FillsForC (read_text (length image.old) text.now) image.old result image.new }
 {
-    refusals::filled_for_c(hexread::read(text, image))
+    hexread::read(text, image).into()
 }
 
 // Writes an image as a HEX text, which takes BJORKNEVE_LONGEST_WRITTEN_TEXT bytes for the largest image. Refused 4 or 17.
 pub fn bjorkneve_write(image: &[u8], text: &mut [u8]) -> FilledForC
     ensures { FillsForC (write_image (length text.old) image.now) text.old result text.new }
 {
-    refusals::filled_for_c(hexwrite::write(image, text))
+    hexwrite::write(image, text).into()
 }
 
 // Reads a HEX text into the image and judges it as a panel of this level does. Refused as by bjorkneve_read, then as by
@@ -45,21 +45,21 @@ pub fn bjorkneve_write(image: &[u8], text: &mut [u8]) -> FilledForC
 pub fn bjorkneve_load(text: &[u8], level: u32, image: &mut [u8]) -> FilledForC
     ensures { FillsForC (load_text level (length image.old) text.now) image.old result image.new }
 {
-    refusals::filled_for_c(panel::load(text, level, image))
+    panel::load(text, level, image).into()
 }
 
 // Judges an image's layout, and not what its sections hold. Refused 5 to 8.
 pub fn bjorkneve_layout(image: &[u8]) -> VerdictForC
     ensures { result ≡ verdict_for_c (layout_verdict image.now) }
 {
-    refusals::verdict_for_c(layout::layout(image))
+    layout::layout(image).into()
 }
 
 // Judges an image as a panel of this level does. Refused 20, then 5 to 13, 15 or 16.
 pub fn bjorkneve_verdict(image: &[u8], level: u32) -> VerdictForC
     ensures { result ≡ verdict_for_c (verdict_of level image.now) }
 {
-    refusals::verdict_for_c(panel::verdict(image, level))
+    panel::verdict(image, level).into()
 }
 
 // Finds the section of a kind. No kind is there in an image whose layout is refused. The body of kind 1 begins with the gauge's
@@ -67,7 +67,7 @@ pub fn bjorkneve_verdict(image: &[u8], level: u32) -> VerdictForC
 pub fn bjorkneve_find(image: &[u8], kind: u32) -> PlaceForC
     ensures { result ≡ place_for_c (placed (found_offset image.now kind) (found image.now kind)) }
 {
-    finder::place_for_c(finder::place_of(image, kind))
+    finder::place_of(image, kind).into()
 }
 
 // Builds an image of sections: section i has the kind kinds[i] and a body of lengths[i] bytes, and bodies are all of them joined.
@@ -82,7 +82,7 @@ pub fn bjorkneve_build(
         (build_image (length image.old) (lines_given kinds.now lengths.now) bodies.now)
         image.old result image.new }
 {
-    refusals::filled_for_c(builder::build_from_numbers(kinds, lengths, bodies, image))
+    builder::build_from_numbers(kinds, lengths, bodies, image).into()
 }
 
 // Takes the reading of a panel of this level, by an image that is judged anew at each call. Refused as by bjorkneve_verdict, then 21
@@ -90,7 +90,7 @@ pub fn bjorkneve_build(
 pub fn bjorkneve_reading(image: &[u8], level: u32, counts: Counts) -> AnswerForC
     ensures { result ≡ answer_for_c (reading_of level image.now counts) }
 {
-    reading::answer_for_c(panel::reading(image, level, counts))
+    panel::reading(image, level, counts).into()
 }
 
 // A panel of this level at power-on. Of the bytes in the image the first size are what was kept of an accepted image, and they are judged
@@ -135,7 +135,7 @@ pub fn bjorkneve_panel_end(panel: Panel, image: &mut [u8]) -> Panel
 pub fn bjorkneve_panel_status(panel: Panel) -> StatusForC
     ensures { result ≡ status_for_c panel }
 {
-    lamp::status_for_c(panel)
+    StatusForC::from(panel)
 }
 
 // Takes a reading by the panel's image, which is judged anew at each call. Refused as by bjorkneve_reading; 5 where the lamp is not green,
@@ -143,12 +143,12 @@ pub fn bjorkneve_panel_status(panel: Panel) -> StatusForC
 pub fn bjorkneve_panel_reading(panel: Panel, image: &[u8], counts: Counts) -> AnswerForC
     ensures { result ≡ answer_for_c (reading_shown (standing panel image.now) counts) }
 {
-    reading::answer_for_c(lamp::reading(panel, image, counts))
+    lamp::reading(panel, image, counts).into()
 }
 
 // The gauge of the panel's image, which is judged anew. Refused as by bjorkneve_verdict; 5 where the lamp is not green, or 20.
 pub fn bjorkneve_panel_gauge(panel: Panel, image: &[u8]) -> GaugeForC
     ensures { result ≡ gauge_for_c (gauge_told (standing panel image.now)) }
 {
-    lamp::gauge_for_c(lamp::gauge(panel, image))
+    lamp::gauge(panel, image).into()
 }

@@ -2,7 +2,7 @@
 use Rattle.std.specs.Prelude.{Bool, not, cond, ◌&&◌, ◌||◌, List, [], ◌∷◌, ℕ, ◌-◌, ◌%◌, leb, eqb, length, get_or}
 use Rattle.std.specs.Int.Signed.{le_z}
 use Rattle.numbers.specs.Fields.{number_at, signed_at}
-use Rattle.refusals.specs.declared.Verdict.{Verdict}
+use Rattle.refusals.specs.Answers.{Verdict}
 use Rattle.refusals.specs.FieldsVerdict.{Field, field, fields_verdict}
 use Rattle.bodies.specs.declared.Identity.{Identity}
 

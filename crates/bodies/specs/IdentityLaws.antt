@@ -1,7 +1,8 @@
 -- Laws of an identity: what is read, and the days of a month.
-use Rattle.std.specs.Prelude.{◌≡◌, refl, cond, List, [], ◌∷◌, ℕ, zero, suc, ◌-◌, ◌≤◌, ℤ}
+use Rattle.std.specs.Prelude.{◌≡◌, refl, cond, List, [], ◌∷◌, ℕ, zero, suc, ◌-◌, ◌≤◌, ℤ, take}
 use Rattle.std.proofs.Common.{arith, get_or}
 use Rattle.numbers.specs.Fields.{number_at, signed_at}
+use Rattle.numbers.specs.FieldsLaws.{number_within}
 use Rattle.bodies.specs.declared.Identity.{Identity}
 use Rattle.bodies.specs.Identity.{identity_of, leap_year, month_lengths, days_in}
 
@@ -13,6 +14,21 @@ pub identity_read : (body : List ℕ) {serial year month day : ℕ} {tmin tmax p
     (identity_of body)
 unfolding identity_of
 identity_read body a b c d e f g h = rw (a, b, c, d, e, f, g, h)
+
+-- the first 24 bytes say all of it
+pub identity_of_whole : (body : List ℕ) → identity_of (take 24 body) ≡ identity_of body
+unfolding identity_of
+identity_of_whole body =
+    rw (
+      number_within 4 body 0 24 (omega arith),
+      number_within 2 body 4 24 (omega arith),
+      number_within 1 body 6 24 (omega arith),
+      number_within 1 body 7 24 (omega arith),
+      number_within 4 body 8 24 (omega arith),
+      number_within 4 body 12 24 (omega arith),
+      number_within 4 body 16 24 (omega arith),
+      number_within 4 body 20 24 (omega arith),
+    )
 
 -- February's days depend on the year, and those of the other months are listed
 pub days_february : (year month : ℕ) {days : ℕ} → days ≡ cond (leap_year year) 29 28 → month ≡ 2 → days ≡ days_in year month

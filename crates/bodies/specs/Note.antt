@@ -1,6 +1,6 @@
 -- Kind 129, note, 1 to 64 bytes, each a field of 32 to 126.
 use Rattle.std.specs.Prelude.{◌&&◌, List, ◌∷◌, ℕ, leb, length, get_or}
-use Rattle.refusals.specs.declared.Verdict.{Verdict}
+use Rattle.refusals.specs.Answers.{Verdict}
 use Rattle.refusals.specs.FieldsVerdict.{Field, field, fields_verdict, fields_from}
 
 abbrev pub character_field : List ℕ → (i : ℕ) → Field

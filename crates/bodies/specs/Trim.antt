@@ -1,7 +1,7 @@
 -- Kind 4, trim, 16 bytes.
 use Rattle.std.specs.Prelude.{◌&&◌, List, [], ◌∷◌, ℕ, ◌^◌, leb, eqb, nat_abs, length}
 use Rattle.numbers.specs.Fields.{number_at, signed_at}
-use Rattle.refusals.specs.declared.Verdict.{Verdict}
+use Rattle.refusals.specs.Answers.{Verdict}
 use Rattle.refusals.specs.FieldsVerdict.{Field, field, fields_verdict}
 use Rattle.bodies.specs.declared.Trim.{Trim}
 

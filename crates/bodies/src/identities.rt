@@ -6,23 +6,32 @@ ghost use Rattle.bodies.specs.MonthLaws.{missing_days};
 
 use super::Identity;
 use limits::{FIRST_YEAR, IDENTITY_SIZE, LAST_YEAR};
-use numbers::fields::{number1, number2, number4, signed4};
-use refusals::{Verdict, refused_at};
+use numbers::fields::Number;
+use refusals::{Reason, Verdict};
 use whole::outside;
 
 pub fn read_identity(body: &[u8]) -> Identity
     ensures { result ≡ identity_of body.now }
 {
-    // read from the last field on, so that one bounds check serves all fields
+    // one bounds check for all fields: each of a body that is whole is known to be there
+    match body.first_chunk::<IDENTITY_SIZE>() {
+        Some(whole) => identity_in(whole),
+        None => identity_in(body),
+    }
+}
+
+fn identity_in(body: &[u8]) -> Identity
+    ensures { result ≡ identity_of body.now }
+{
     Identity {
-        pmax: signed4(body, 20),
-        pmin: signed4(body, 16),
-        tmax: signed4(body, 12),
-        tmin: signed4(body, 8),
-        day: number1(body, 7),
-        month: number1(body, 6),
-        year: number2(body, 4),
-        serial: number4(body, 0),
+        serial: u32::at(body, 0),
+        year: u16::at(body, 4),
+        month: u8::at(body, 6),
+        day: u8::at(body, 7),
+        tmin: i32::at(body, 8),
+        tmax: i32::at(body, 12),
+        pmin: i32::at(body, 16),
+        pmax: i32::at(body, 20),
     }
 }
 
@@ -30,7 +39,7 @@ pub fn identity_verdict(body: &[u8]) -> Verdict
     ensures { result ≡ identity_verdict body.now }
 {
     if body.len() != IDENTITY_SIZE {
-        return refused_at(11, body.len());
+        return Reason::Identity.refused_at(body.len());
     }
     date_verdict(body)
 }
@@ -39,16 +48,17 @@ pub fn identity_verdict(body: &[u8]) -> Verdict
 fn date_verdict(body: &[u8]) -> Verdict
     ensures { result ≡ fields_verdict 11 (drop 1 (identity_fields body.now)) }
 {
-    let year = number2(body, 4);
+    let year = u16::at(body, 4);
+    // widened by `as`, here and below: through a call of `u64::from` no proof was found
     if outside(FIRST_YEAR, year as u64, LAST_YEAR) {
-        return refused_at(11, 4);
+        return Reason::Identity.refused_at(4);
     }
-    let month = number1(body, 6);
+    let month = u8::at(body, 6);
     if outside(1, month as u64, 12) {
-        return refused_at(11, 6);
+        return Reason::Identity.refused_at(6);
     }
-    if outside(1, number1(body, 7) as u64, days_in(year, month) as u64) {
-        return refused_at(11, 7);
+    if outside(1, u8::at(body, 7) as u64, days_in(year, month) as u64) {
+        return Reason::Identity.refused_at(7);
     }
     limits_verdict(body)
 }
@@ -57,17 +67,17 @@ fn date_verdict(body: &[u8]) -> Verdict
 fn limits_verdict(body: &[u8]) -> Verdict
     ensures { result ≡ fields_verdict 11 (drop 4 (identity_fields body.now)) }
 {
-    let tmin = signed4(body, 8);
-    let tmax = signed4(body, 12);
+    let tmin = i32::at(body, 8);
+    let tmax = i32::at(body, 12);
     if tmax < tmin {
-        return refused_at(11, 12);
+        return Reason::Identity.refused_at(12);
     }
-    let pmin = signed4(body, 16);
-    let pmax = signed4(body, 20);
+    let pmin = i32::at(body, 16);
+    let pmax = i32::at(body, 20);
     if pmax < pmin {
-        return refused_at(11, 20);
+        return Reason::Identity.refused_at(20);
     }
-    Verdict::Accepted
+    Ok(())
 }
 
 fn leap_year(year: u16) -> bool

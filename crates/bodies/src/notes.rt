@@ -4,14 +4,14 @@ ghost use Rattle.refusals.specs.FieldsVerdict.{fields_verdict};
 ghost use Rattle.bodies.specs.Note.{character_fields, note_verdict};
 
 use limits::{HIGHEST_CHARACTER, LONGEST_NOTE, LOWEST_CHARACTER};
-use refusals::{Verdict, refused_at};
+use refusals::{Reason, Verdict};
 use whole::outside;
 
 pub fn note_verdict(body: &[u8]) -> Verdict
     ensures { result ≡ note_verdict body.now }
 {
     if outside(1, body.len() as u64, LONGEST_NOTE) {
-        return refused_at(16, body.len());
+        return Reason::Note.refused_at(body.len());
     }
     characters_verdict(body)
 }
@@ -19,12 +19,11 @@ pub fn note_verdict(body: &[u8]) -> Verdict
 fn characters_verdict(body: &[u8]) -> Verdict
     ensures { result ≡ fields_verdict 16 (character_fields body.now) }
 {
-    let mut i: usize = 0;
-    while i < body.len() {
-        if outside(LOWEST_CHARACTER, body[i] as u64, HIGHEST_CHARACTER) {
-            return refused_at(16, i);
+    for (i, character) in body.iter().enumerate() {
+        // widened by `as`: through a call of `u64::from` no proof was found
+        if outside(LOWEST_CHARACTER, *character as u64, HIGHEST_CHARACTER) {
+            return Reason::Note.refused_at(i);
         }
-        i += 1;
     }
-    Verdict::Accepted
+    Ok(())
 }

@@ -5,18 +5,27 @@ ghost use Rattle.bodies.specs.Trim.{trim_of, trim_fields, trim_verdict};
 
 use super::Trim;
 use limits::{HIGHEST_UNIT, LARGEST_SPAN, LARGEST_ZERO, TRIM_SIZE};
-use numbers::fields::{number1, number4, signed8};
-use refusals::{Verdict, refused_at};
+use numbers::fields::Number;
+use refusals::{Reason, Verdict};
 use whole::{beyond, outside};
 
 pub fn read_trim(body: &[u8]) -> Trim
     ensures { result ≡ trim_of body.now }
 {
-    // read from the last field on, so that one bounds check serves all fields
+    // one bounds check for all fields: each of a body that is whole is known to be there
+    match body.first_chunk::<TRIM_SIZE>() {
+        Some(whole) => trim_in(whole),
+        None => trim_in(body),
+    }
+}
+
+fn trim_in(body: &[u8]) -> Trim
+    ensures { result ≡ trim_of body.now }
+{
     Trim {
-        zero: signed8(body, 8),
-        span: number4(body, 4),
-        unit: number1(body, 0),
+        unit: u8::at(body, 0),
+        span: u32::at(body, 4),
+        zero: i64::at(body, 8),
     }
 }
 
@@ -24,19 +33,21 @@ pub fn trim_verdict(body: &[u8]) -> Verdict
     ensures { result ≡ trim_verdict body.now }
 {
     if body.len() != TRIM_SIZE {
-        return refused_at(15, body.len());
+        return Reason::Trim.refused_at(body.len());
     }
-    if outside(1, number1(body, 0) as u64, HIGHEST_UNIT) {
-        return refused_at(15, 0);
+    // widened by `as`, here and below: through a call of `u64::from` no proof was found
+    if outside(1, u8::at(body, 0) as u64, HIGHEST_UNIT) {
+        return Reason::Trim.refused_at(0);
     }
-    if number1(body, 1) != 0 {
-        return refused_at(15, 1);
+    // one by one: a loop over the three places would be as long, with an invariant besides
+    if u8::at(body, 1) != 0 {
+        return Reason::Trim.refused_at(1);
     }
-    if number1(body, 2) != 0 {
-        return refused_at(15, 2);
+    if u8::at(body, 2) != 0 {
+        return Reason::Trim.refused_at(2);
     }
-    if number1(body, 3) != 0 {
-        return refused_at(15, 3);
+    if u8::at(body, 3) != 0 {
+        return Reason::Trim.refused_at(3);
     }
     amounts_verdict(body)
 }
@@ -45,11 +56,11 @@ pub fn trim_verdict(body: &[u8]) -> Verdict
 fn amounts_verdict(body: &[u8]) -> Verdict
     ensures { result ≡ fields_verdict 15 (drop 5 (trim_fields body.now)) }
 {
-    if outside(1, number4(body, 4) as u64, LARGEST_SPAN) {
-        return refused_at(15, 4);
+    if outside(1, u32::at(body, 4) as u64, LARGEST_SPAN) {
+        return Reason::Trim.refused_at(4);
     }
-    if beyond(signed8(body, 8), LARGEST_ZERO) {
-        return refused_at(15, 8);
+    if beyond(i64::at(body, 8), LARGEST_ZERO) {
+        return Reason::Trim.refused_at(8);
     }
-    Verdict::Accepted
+    Ok(())
 }

@@ -1,8 +1,7 @@
 -- What the builder makes of contents lines, each a kind and a length, and of all bodies joined.
 use Rattle.std.specs.Prelude.{◌≡◌, Bool, true, ◌&&◌, List, [], ◌∷◌, ℕ, ◌+◌, leb, ltb, eqb, length, take, drop}
 use Rattle.laws.specs.Bytes.{Bytes}
-use Rattle.refusals.specs.declared.Verdict.{Verdict}
-use Rattle.refusals.specs.declared.Filled.{Filled}
+use Rattle.refusals.specs.Answers.{Verdict, Filled}
 use Rattle.refusals.specs.Refusals.{Outcome, result, checked, ask, and_then, Fills}
 use Rattle.limits.specs.Limits.{largest_image, most_lines}
 use Rattle.image.specs.Contents.{line_place}

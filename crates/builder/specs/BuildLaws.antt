@@ -1,11 +1,10 @@
 -- Lines and the sections that they cut the bodies into; what an accepted list of lines keeps to.
-use Rattle.std.specs.Prelude.{◌≡◌, refl, Bool, true, ◌&&◌, List, [], ◌∷◌, ℕ, zero, suc, ◌≤◌, leb, ltb, eqb, length, drop, get_or}
+use Rattle.std.specs.Prelude.{◌≡◌, refl, Bool, true, ◌&&◌, List, [], ◌∷◌, ℕ, zero, suc, ◌≤◌, leb, ltb, eqb, length, drop, get_or, Ok}
 use Rattle.std.proofs.Common.{ap, arith, length-append, length-drop, take-append-drop, length-take-le}
 use borrow.Author.Tests.{leb-true, ltb-true, eqb-true, le-leb, lt-ltb, eq-eqb}
 use Rattle.std.proofs.Math.Seq.{take-append_seam, drop-append_seam}
 use Rattle.limits.specs.Limits.{largest_image, most_lines}
 use Rattle.laws.specs.Cases.{both_left, both_right}
-use Rattle.refusals.specs.declared.Verdict.TheVariants.{Accepted}
 use Rattle.refusals.specs.Refusals.{ask}
 use Rattle.refusals.specs.VerdictLaws.{asked, first_passed, next_passed}
 use Rattle.image.specs.Sections.{Section, bodies_of, Rising}
@@ -94,7 +93,7 @@ pub record AcceptedLines (size : ℕ) (lines : List KindAndLength) (bodies : Lis
   pub room : image_length lines bodies ≤ size
 
 module _ (size : ℕ) (lines : List KindAndLength) (bodies : List ℕ) where
-  pub passed : build_verdict size lines bodies ≡ Accepted → AcceptedLines size lines bodies
+  pub passed : build_verdict size lines bodies ≡ Ok tt → AcceptedLines size lines bodies
   unfolding build_verdict
   passed e =
       let first = asked (lines_right lines) 18 0 (first_passed _ _ e) in
@@ -111,7 +110,7 @@ module _ (size : ℕ) (lines : List KindAndLength) (bodies : List ℕ) where
         room = leb-true (image_length lines bodies) size (asked _ 17 0 third);
       }
 
-  pub passes : AcceptedLines size lines bodies → build_verdict size lines bodies ≡ Accepted
+  pub passes : AcceptedLines size lines bodies → build_verdict size lines bodies ≡ Ok tt
   unfolding build_verdict
   passes p =
       rw (

@@ -1,8 +1,7 @@
 -- What the builder's images are: exactly those with a good layout, and in each the sections given.
-use Rattle.std.specs.Prelude.{◌≡◌, ◌↔◌, List, ℕ, ◌≤◌, length}
+use Rattle.std.specs.Prelude.{◌≡◌, ◌↔◌, List, ℕ, ◌≤◌, length, Ok}
 use Rattle.std.proofs.Common.{sym, ap, ◌∙◌, le_refl, arith}
 use Rattle.laws.specs.Bytes.{Bytes}
-use Rattle.refusals.specs.declared.Verdict.TheVariants.{Accepted}
 use Rattle.refusals.specs.Refusals.{result}
 use Rattle.refusals.specs.VerdictLaws.{checked_result}
 use Rattle.image.specs.Layout.{layout_verdict}
@@ -17,7 +16,7 @@ use Rattle.builder.specs.Lines.{lines_of}
 use Rattle.builder.specs.BuildLaws.{AcceptedLines, passed, passes, sections_counted, bodies_whole, sections_rise, lines_counted, lines_total, lines_rise, sections_again}
 
 module _ (size : ℕ) (lines : List KindAndLength) (bodies image : List ℕ) (made : build_image size lines bodies ≡ result image) where
-  checked_as : (build_verdict size lines bodies ≡ Accepted) × (image_of (sections_of lines bodies) ≡ image)
+  checked_as : (build_verdict size lines bodies ≡ Ok tt) × (image_of (sections_of lines bodies) ≡ image)
   unfolding build_image
   checked_as = checked_result (build_verdict size lines bodies) (image_of (sections_of lines bodies)) image made
 
@@ -36,7 +35,7 @@ module _ (size : ℕ) (lines : List KindAndLength) (bodies image : List ℕ) (ma
       }
 
   -- An accepted list of lines gives an image with a good layout.
-  pub built_good : layout_verdict image ≡ Accepted
+  pub built_good : layout_verdict image ≡ Ok tt
   built_good = rw (← checked_as.1) (image_good (sections_of lines bodies) fit)
 
   -- Its sections are the sections given.
@@ -52,7 +51,7 @@ module _ (size : ℕ) (lines : List KindAndLength) (bodies image : List ℕ) (ma
   built_bytes b = rw (← checked_as.1) (image_bytes (sections_of lines bodies) fit (rw (bodies_whole lines bodies kept_to.whole) b))
 
 -- Each image with a good layout is built, byte for byte, from the lines of its own sections and their bodies joined.
-pub good_built : (size : ℕ) (image : List ℕ) → Bytes image → layout_verdict image ≡ Accepted → length image ≤ size
+pub good_built : (size : ℕ) (image : List ℕ) → Bytes image → layout_verdict image ≡ Ok tt → length image ≤ size
     → build_image size (lines_of (sections image)) (bodies_of (sections image)) ≡ result image
 unfolding build_image
 good_built size image b good room =
@@ -72,7 +71,7 @@ good_built size image b good room =
     rw (passes size (lines_of ss) (bodies_of ss) p, sections_again ss, same)
 
 -- The builder's images are exactly those with a good layout.
-pub built_exactly : (image : List ℕ) → Built image ↔ (Bytes image × (layout_verdict image ≡ Accepted))
+pub built_exactly : (image : List ℕ) → Built image ↔ (Bytes image × (layout_verdict image ≡ Ok tt))
 built_exactly image = (
   λ b. (built_bytes b.size b.lines b.bodies image b.made b.bytes, built_good b.size b.lines b.bodies image b.made),
   λ g. record {

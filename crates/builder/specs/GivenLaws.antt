@@ -1,12 +1,10 @@
 -- The lines that two lists of numbers give: their number, kinds and lengths, and the lines from line i on.
-use Rattle.std.specs.Prelude.{◌≡◌, refl, List, [], ◌∷◌, ◌++◌, ℕ, zero, suc, ◌+◌, ◌≤◌, ◌<◌, eqb, drop, get_or}
-use Rattle.std.proofs.Common.{ap, ◌∙◌, eq-eqb, ne_eqb, eqb-true, length-append, drop_of_length-le}
-use Rattle.std.proofs.Math.Numerals.{add-one}
+use Rattle.std.specs.Prelude.{◌≡◌, refl, List, [], ◌∷◌, ℕ, zero, suc, ◌+◌, ◌≤◌, ◌<◌, eqb, drop, get_or}
+use Rattle.std.proofs.Common.{sym, ap, ◌∙◌, eq-eqb, ne_eqb, eqb-true}
 use native.Mathlib.Omega.{arith}
 use Rattle.std.proofs.lemmas.Bool.{eqb-false}
 use Rattle.std.proofs.Math.ListN.{length}
 use Rattle.std.proofs.lemmas.List.{length-map}
-use Rattle.std.proofs.Math.Seq.{drop-cons}
 use Rattle.laws.specs.Cases.{decide}
 use Rattle.laws.specs.Sums.{total}
 use Rattle.builder.specs.declared.KindAndLength.{KindAndLength}
@@ -45,14 +43,6 @@ paired_line (k ∷ kinds) [] i e = absurd (omega arith)
 paired_line (k ∷ kinds) (l ∷ lengths) zero e = refl
 paired_line (k ∷ kinds) (l ∷ lengths) (suc i) e = paired_line kinds lengths i (omega arith)
 
-paired_append : (kinds lengths : List ℕ) (line : KindAndLength) → length kinds ≡ length lengths
-    → paired (kinds ++ line.kind ∷ []) (lengths ++ line.length ∷ []) ≡ paired kinds lengths ++ line ∷ []
-unfolding paired
-paired_append [] [] line e = refl
-paired_append [] (l ∷ lengths) line e = absurd (omega arith)
-paired_append (k ∷ kinds) [] line e = absurd (omega arith)
-paired_append (k ∷ kinds) (l ∷ lengths) line e = rw (paired_append kinds lengths line (omega arith))
-
 module _ (kinds lengths : List ℕ) where
   pub given_some : 1 ≤ length (lines_given kinds lengths) → length kinds ≡ length lengths
   given_some h =
@@ -67,18 +57,19 @@ module _ (kinds lengths : List ℕ) where
     pub given_total : lengths_total (lines_given kinds lengths) ≡ total lengths
     given_total = rw (given_paired kinds lengths e) (paired_total kinds lengths e)
 
-    pub given_append : (line : KindAndLength) → lines_given (kinds ++ line.kind ∷ []) (lengths ++ line.length ∷ []) ≡ lines_given kinds lengths ++ line ∷ []
-    given_append line =
-        let kinds' = kinds ++ line.kind ∷ [] in
-        let lengths' = lengths ++ line.length ∷ [] in
-        let longer : length kinds' ≡ length lengths' = omega (arith, length-append kinds (line.kind ∷ []), length-append lengths (line.length ∷ [])) in
-        rw (given_paired kinds lengths e, given_paired kinds' lengths' longer) (paired_append kinds lengths line e)
-
     pub given_line : (i : ℕ) → get_or (lines_given kinds lengths) i no_line ≡ record { kind = get_or kinds i 0; length = get_or lengths i 0 }
     given_line i = rw (given_paired kinds lengths e) (paired_line kinds lengths i e)
 
-    pub given_kind : (i : ℕ) → (get_or (lines_given kinds lengths) i no_line).kind ≡ get_or kinds i 0
-    given_kind i = ap (λ (line : KindAndLength). line.kind) (given_line i)
+-- where there is a line, there are a kind and a length
+pub given_within : (kinds lengths : List ℕ) (i : ℕ) → i < length (lines_given kinds lengths) → (i < length kinds) × (i < length lengths)
+given_within kinds lengths i h =
+    let even = given_some kinds lengths (omega arith) in
+    let counted = given_counted kinds lengths even in
+    (omega arith, omega arith)
+
+pub given_there : (kinds lengths : List ℕ) (i : ℕ) → i < length (lines_given kinds lengths)
+    → record { kind = get_or kinds i 0; length = get_or lengths i 0 } ≡ get_or (lines_given kinds lengths) i no_line
+given_there kinds lengths i h = sym (given_line kinds lengths (given_some kinds lengths (omega arith)) i)
 
 -- ---- any list of lines is given so
 
@@ -98,16 +89,5 @@ given_again lines =
 abbrev pub lines_from : (kinds lengths : List ℕ) → ℕ → List KindAndLength
 lines_from kinds lengths i = paired (drop i kinds) (drop i lengths)
 
-module _ (kinds lengths : List ℕ) (e : length kinds ≡ length lengths) where
-  pub lines_first : lines_from kinds lengths 0 ≡ lines_given kinds lengths
-  lines_first = rw (given_paired kinds lengths e)
-
-  module _ (i : ℕ) where
-    pub lines_more : i < length kinds
-        → lines_from kinds lengths i ≡ record { kind = get_or kinds i 0; length = get_or lengths i 0 } ∷ lines_from kinds lengths (i + 1)
-    unfolding paired
-    lines_more h = let k : i < length lengths = omega arith in rw (drop-cons kinds i 0 h, drop-cons lengths i 0 k, add-one i)
-
-    pub lines_end : length kinds ≤ i → lines_from kinds lengths i ≡ []
-    unfolding paired
-    lines_end h = rw (drop_of_length-le kinds h)
+pub lines_first : (kinds lengths : List ℕ) → length kinds ≡ length lengths → lines_from kinds lengths 0 ≡ lines_given kinds lengths
+lines_first kinds lengths e = rw (given_paired kinds lengths e)

@@ -4,5 +4,4 @@ pub mod BuildLaws
 pub mod GivenLaws
 pub mod CheckLaws
 pub mod WriteLaws
-pub mod TableLaws
 pub mod Built

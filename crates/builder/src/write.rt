@@ -1,29 +1,46 @@
 // The image's bytes written into a buffer: the first two, the contents lines, the bodies.
-ghost use Rattle.std.specs.Prelude.{◌≡◌, ◌++◌, [], ◌∷◌, ◌+◌, ◌%◌, ◌≤◌, length, take, drop};
+ghost use Rattle.std.specs.Prelude.{◌≡◌, ◌++◌, ◌+◌, ◌%◌, ◌≤◌, length, take, drop};
 ghost use Rattle.laws.specs.Sums.{total};
 ghost use Rattle.refusals.specs.Refusals.{result as the_result};
 ghost use Rattle.refusals.specs.RefusalsLaws.{Begins};
-ghost use Rattle.image.specs.Sections.{contents_line};
-ghost use Rattle.builder.specs.CheckLaws.{Buildable};
-ghost use Rattle.builder.specs.WriteLaws.{CopyingOn, ContentsPut, image_given};
+ghost use Rattle.image.specs.Sections.{contents_line, image_of};
+ghost use Rattle.builder.specs.Build.{sections_of};
+ghost use Rattle.builder.specs.BuildLaws.{AcceptedLines};
+ghost use Rattle.builder.specs.WriteLaws.{ContentsPut};
 
+use crate::lines::Lines;
 use limits::{FIRST_BYTE, HEAD_SIZE, LINE_SIZE};
 use numbers::slices;
 use refusals::Filled;
 
+// Bytes from `place` on.
+fn put(image: &mut [u8], place: usize, bytes: &[u8])
+    requires { place + length bytes.now ≤ length image.old }
+    ensures { take (place + length bytes.now) image.new ≡ take place image.old ++ bytes.now }
+{
+    image[place..place + bytes.len()].copy_from_slice(bytes);
+}
+
 // A contents line from `place` on.
+#[tactic(auto, using(crate::specs::WriteLaws::line_spelled))]
 fn put_line(image: &mut [u8], place: usize, kind: u8, offset: u16, size: u16, sum: u16)
     requires { place + 8 ≤ length image.old }
     ensures { take (place + 8) image.new ≡ take place image.old ++ contents_line kind offset size sum }
 {
-    image[place] = kind;
-    image[place + 1] = 0;
-    image[place + 2] = (offset % 256) as u8;
-    image[place + 3] = (offset / 256) as u8;
-    image[place + 4] = (size % 256) as u8;
-    image[place + 5] = (size / 256) as u8;
-    image[place + 6] = (sum % 256) as u8;
-    image[place + 7] = (sum / 256) as u8;
+    let [offset_low, offset_high] = offset.to_le_bytes();
+    let [size_low, size_high] = size.to_le_bytes();
+    let [sum_low, sum_high] = sum.to_le_bytes();
+    let line = [
+        kind,
+        0,
+        offset_low,
+        offset_high,
+        size_low,
+        size_high,
+        sum_low,
+        sum_high,
+    ];
+    put(image, place, &line);
 }
 
 // The sum of the body that begins at `start`.
@@ -36,74 +53,38 @@ fn body_sum(bodies: &[u8], start: usize, size: usize) -> u16
 }
 
 // The contents lines, after the image's first two bytes.
-fn put_contents(kinds: &[u32], lengths: &[usize], bodies: &[u8], image: &mut [u8])
-    requires { Buildable kinds.now lengths.now bodies.now (length image.old) }
-    ensures { ContentsPut kinds.now lengths.now bodies.now image.old image.new }
+fn put_contents<L: Lines>(lines: &L, bodies: &[u8], image: &mut [u8])
+    requires { AcceptedLines (length image.old) (L.lines lines.now) bodies.now }
+    ensures { ContentsPut (L.lines lines.now) bodies.now image.old image.new }
 {
-    let first = HEAD_SIZE + LINE_SIZE * kinds.len();
+    let count = lines.count();
+    let first = HEAD_SIZE + LINE_SIZE * count;
     let mut start: usize = 0;
-    let mut i: usize = 0;
-    while i < kinds.len() {
-        let length = lengths[i];
-        let sum = body_sum(bodies, start, length);
+    for i in 0..count {
+        let line = lines.line(i);
+        let sum = body_sum(bodies, start, line.length);
         put_line(
             image,
             HEAD_SIZE + LINE_SIZE * i,
-            kinds[i] as u8,
+            line.kind as u8,
             (first + start) as u16,
-            length as u16,
+            line.length as u16,
             sum,
         );
-        start += length;
-        i += 1;
+        start += line.length;
     }
-}
-
-// Copies `count` bytes more of the bodies, of which the image has those before `from`, from `place` on.
-fn copy_on(image: &mut [u8], place: usize, bodies: &[u8], from: usize, count: usize)
-    requires { (place + length bodies.now ≤ length image.old) × (from + count ≤ length bodies.now) }
-    ensures { CopyingOn place bodies.now image.old from count image.new }
-{
-    let mut i: usize = 0;
-    while i < count {
-        image[place + from + i] = bodies[from + i];
-        i += 1;
-    }
-}
-
-// How many bytes are copied by one loop of known length, which the compiler vectorises.
-const BLOCK: usize = 128;
-
-// The bodies, from `place` on.
-fn put_bodies(image: &mut [u8], place: usize, bodies: &[u8])
-    requires { place + length bodies.now ≤ length image.old }
-    ensures { take (place + length bodies.now) image.new ≡ take place image.old ++ bodies.now }
-{
-    let mut i: usize = 0;
-    while BLOCK <= bodies.len() - i {
-        copy_on(image, place, bodies, i, BLOCK);
-        i += BLOCK;
-    }
-    copy_on(image, place, bodies, i, bodies.len() - i);
-}
-
-// The image's first two bytes.
-fn put_start(image: &mut [u8], count: u8)
-    requires { 2 ≤ length image.old }
-    ensures { take 2 image.new ≡ 0x51 ∷ count ∷ [] }
-{
-    image[0] = FIRST_BYTE;
-    image[1] = count;
 }
 
 // The image, from the buffer's start.
-pub fn put_image(kinds: &[u32], lengths: &[usize], bodies: &[u8], image: &mut [u8]) -> Filled
-    requires { Buildable kinds.now lengths.now bodies.now (length image.old) }
-    ensures { Begins (the_result (image_given kinds.now lengths.now bodies.now)) result image.new }
+#[tactic(auto, using(crate::specs::WriteLaws::image_written))]
+pub fn put_image<L: Lines>(lines: &L, bodies: &[u8], image: &mut [u8]) -> Filled
+    requires { AcceptedLines (length image.old) (L.lines lines.now) bodies.now }
+    ensures { Begins (the_result (image_of (sections_of (L.lines lines.now) bodies.now))) result image.new }
 {
-    put_start(image, kinds.len() as u8);
-    put_contents(kinds, lengths, bodies, image);
-    let first = HEAD_SIZE + LINE_SIZE * kinds.len();
-    put_bodies(image, first, bodies);
-    Filled::Length(first + bodies.len())
+    let count = lines.count();
+    put(image, 0, &[FIRST_BYTE, count as u8]);
+    put_contents(lines, bodies, image);
+    let first = HEAD_SIZE + LINE_SIZE * count;
+    put(image, first, bodies);
+    Ok(first + bodies.len())
 }

@@ -2,12 +2,12 @@
 #![tactic(auto)]
 
 ghost use Rattle.std.specs.Prelude.{◌≡◌};
-ghost use Rattle.numbers.specs.Fields.{number_at};
 ghost use Rattle.image.specs.Contents.{line_count, contents_verdict};
 ghost use Rattle.contents.specs.Lines.{line_in, line_at};
 
 use limits::{HEAD_SIZE, LINE_SIZE};
-use numbers::{fields, slices};
+use numbers::fields::Number;
+use numbers::slices;
 use refusals::Verdict;
 
 // The three checks.
@@ -26,61 +26,42 @@ pub struct ContentsLine {
 pub fn line_count(image: &[u8]) -> usize
     ensures { result ≡ line_count image.now }
 {
-    fields::number1(image, 1) as usize
+    usize::from(u8::at(image, 1))
 }
 
-// A line's bytes as one number: one bounds check for all fields. Not by `number8`, which with one caller more would be inlined nowhere.
-fn eight_bytes(bytes: &[u8]) -> u64
-    ensures { result ≡ number_at 8 bytes.now 0 }
-{
-    if bytes.len() < LINE_SIZE {
-        let low = fields::number4(bytes, 0) as u64;
-        let high = fields::number4(bytes, 4) as u64;
-        return low + 4294967296 * high;
-    }
-    fields::number_of_8([
-        bytes[0], bytes[1], bytes[2], bytes[3], bytes[4], bytes[5], bytes[6], bytes[7],
-    ])
-}
-
-// The line that these bytes begin with; bytes past the end are 0. Of a slice whose length is known to be 8 the compiler drops the bounds check.
+// The line that these bytes begin with; bytes past the end are 0. Of a slice whose length is known to be 8 the compiler drops the bounds checks.
 pub fn line_in(bytes: &[u8]) -> ContentsLine
     ensures { result ≡ line_in bytes.now }
 {
-    let all = eight_bytes(bytes);
     ContentsLine {
-        kind: (all % 256) as u8,
-        zero: (all / 256 % 256) as u8,
-        offset: (all / 65536 % 65536) as u16,
-        length: (all / 4294967296 % 65536) as u16,
-        sum: (all / 281474976710656) as u16,
+        kind: u8::at(bytes, 0),
+        zero: u8::at(bytes, 1),
+        offset: u16::at(bytes, 2),
+        length: u16::at(bytes, 4),
+        sum: u16::at(bytes, 6),
     }
 }
 
-// From line 2^60 on a line's place would wrap, and no slice is so long.
-const FIRST_FAR_LINE: usize = 1152921504606846976;
-
-// Bytes past the end are 0.
+// Bytes past the end are 0. A place that would wrap is the highest instead, which is past the end of every slice.
+#[tactic(auto, using(crate::specs::LinesLaws::line_of_part))]
 pub fn line_at(image: &[u8], line: usize) -> ContentsLine
     ensures { result ≡ line_at image.now line }
 {
-    if FIRST_FAR_LINE <= line {
-        return line_in(slices::part(image, 0, 0));
+    let place = LINE_SIZE.saturating_mul(line).saturating_add(HEAD_SIZE);
+    let part = slices::part(image, place, LINE_SIZE);
+    // all of it is there: one bounds check for all fields
+    if part.len() == LINE_SIZE {
+        return line_in(&part[..LINE_SIZE]);
     }
-    line_in(slices::part(image, HEAD_SIZE + LINE_SIZE * line, LINE_SIZE))
+    line_in(part)
 }
 
 // Refusals 5 to 7 of an image of `size` bytes, by its contents alone: the bodies need not be there.
+#[tactic(auto, unfolding(image::specs::Contents::contents_verdict))]
 pub fn contents_verdict(contents: &[u8], size: usize) -> Verdict
     ensures { result ≡ contents_verdict size contents.now }
 {
-    let start_judged = checks::start_verdict(contents, size);
-    let Verdict::Accepted = start_judged else {
-        return start_judged;
-    };
-    let count_judged = checks::count_verdict(contents, size);
-    let Verdict::Accepted = count_judged else {
-        return count_judged;
-    };
+    checks::start_verdict(contents, size)?;
+    checks::count_verdict(contents, size)?;
     checks::lines_verdict(contents, size)
 }

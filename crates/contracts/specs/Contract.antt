@@ -1,6 +1,7 @@
 -- What is said of a contract, whosever it is: it determines what its function gives, and it asks nothing.
 use Rattle.std.specs.Prelude.{List, ◌≡◌, ℕ}
-use base.Logic.{emp}
+use base.Logic.{emp, sep}
+use contract.Fact.{fact}
 use contract.Lifetimes.{Lfts}
 use Rattle.std.specs.Borrow.{Bor}
 use denote.Triple.Clauses.{Ended, Lasts, AtExit, at_exit}
@@ -36,6 +37,10 @@ module _ (T : Ended) where
   -- The `requires` is the assertion that holds of everything.
   abbrev pub AsksNothing : ((κs : Lifetimes) → Arguments κs → Unit {0} → (w : World) → Pr w) → Type 2
   AsksNothing requires = (κs : Lifetimes) (a : Arguments κs) (w : World) → requires κs a tt w ≡ emp w.𝓤
+
+  -- The same of a function with a const parameter, which it asks of alone: that what is borrowed in the parameter's type lives long enough. A number borrows nothing.
+  abbrev pub AsksItsParameter : ((κs : Lifetimes) → Type 0) → ((κs : Lifetimes) → Arguments κs → Unit {0} → (w : World) → Pr w) → Type 2
+  AsksItsParameter lives requires = (κs : Lifetimes) (a : Arguments κs) (w : World) → requires κs a tt w ≡ sep w.𝓤 (fact w.𝓤 (lives κs)) (emp w.𝓤)
 
 -- Of an answer that is a part of the caller's memory, all that a caller can tell of it: its bytes, and where it stands.
 abbrev pub SamePart : (r r' : Bor (List ℕ)) → Type 0

@@ -3,7 +3,7 @@ use Rattle.std.specs.Prelude.{List, ◌≡◌, refl, ℕ}
 use Rattle.std.proofs.Common.{sym, ap, ◌∙◌}
 use Rattle.std.specs.Borrow.{Bor}
 use Rattle.numbers.specs.Slices.{IsPart}
-use Rattle.refusals.specs.declared.Filled.{Filled}
+use Rattle.refusals.specs.Answers.{Filled}
 use Rattle.refusals.specs.declared.for_c.FilledForC.{FilledForC}
 use Rattle.refusals.specs.Refusals.{Outcome, Fills}
 use Rattle.refusals.specs.ForC.{FillsForC}

@@ -1,6 +1,7 @@
 -- Any two results that a public function's contract allows for one call are equal: the answers, and what each lent buffer holds. The contract is the function's
 -- own: `Learnt` is what Rattle makes of its `ensures`. `tools/contracts` fails where a public function is left out.
-use Rattle.std.specs.Prelude.{refl, nat_abs}
+use denote.Param.{number}
+use Rattle.std.specs.Prelude.{ℕ, refl, nat_abs}
 use Rattle.std.proofs.Common.{ap}
 use Rattle.whole.specs.contracts as whole
 use Rattle.whole.proofs as whole_proofs
@@ -12,6 +13,10 @@ use Rattle.numbers.specs.contracts.slices as slices
 use Rattle.numbers.proofs.slices as slices_proofs
 use Rattle.refusals.specs.contracts as refusals
 use Rattle.refusals.proofs as refusals_proofs
+use Rattle.refusals.specs.contracts.for_c as for_c
+use Rattle.refusals.proofs.for_c as for_c_proofs
+use Rattle.refusals.specs.contracts.reason as reason
+use Rattle.refusals.proofs.reason as reason_proofs
 use Rattle.hexdigits.specs.contracts as hexdigits
 use Rattle.hexdigits.proofs as hexdigits_proofs
 use Rattle.hexline.specs.contracts as hexline
@@ -28,6 +33,8 @@ use Rattle.layout.specs.contracts as layout
 use Rattle.layout.proofs as layout_proofs
 use Rattle.finder.specs.contracts as finder
 use Rattle.finder.proofs as finder_proofs
+use Rattle.finder.specs.contracts.for_c as finder_for_c
+use Rattle.finder.proofs.for_c as finder_for_c_proofs
 use Rattle.builder.specs.contracts as builder
 use Rattle.builder.proofs as builder_proofs
 use Rattle.sets.specs.contracts as sets
@@ -36,10 +43,14 @@ use Rattle.bodies.specs.contracts as bodies
 use Rattle.bodies.proofs as bodies_proofs
 use Rattle.reading.specs.contracts as reading
 use Rattle.reading.proofs as reading_proofs
+use Rattle.reading.specs.contracts.for_c as reading_for_c
+use Rattle.reading.proofs.for_c as reading_for_c_proofs
 use Rattle.panel.specs.contracts as panel
 use Rattle.panel.proofs as panel_proofs
 use Rattle.lamp.specs.contracts as lamp
 use Rattle.lamp.proofs as lamp_proofs
+use Rattle.lamp.specs.contracts.for_c as lamp_for_c
+use Rattle.lamp.proofs.for_c as lamp_for_c_proofs
 use Rattle.bjorkneve.specs.contracts as bjorkneve
 use Rattle.bjorkneve.proofs as bjorkneve_proofs
 use Rattle.display.specs.contracts as display
@@ -61,42 +72,30 @@ beyond_determined _ _ _ _ _ _ = answers
 pub wrapped_sum_determined : Determines whole.wrapped_sum.ended whole_proofs.wrapped_sum.Reads.Learnt
 wrapped_sum_determined _ _ _ _ _ _ = answers
 
-pub rounded_over_2_24_determined : Determines rounding.rounded_over_2_24.ended rounding_proofs.rounded_over_2_24.Reads.Learnt
-rounded_over_2_24_determined _ _ _ _ _ _ = answers
-
-pub rounded_over_2_28_determined : Determines rounding.rounded_over_2_28.ended rounding_proofs.rounded_over_2_28.Reads.Learnt
-rounded_over_2_28_determined _ _ _ _ _ _ = answers
-
-pub rounded_over_2_32_determined : Determines rounding.rounded_over_2_32.ended rounding_proofs.rounded_over_2_32.Reads.Learnt
-rounded_over_2_32_determined _ _ _ _ _ _ = answers
+pub rounded_over_determined : (POWER : ℕ) (fits : _) → Determines (rounding.rounded_over.ended (number POWER)) (rounding_proofs.rounded_over.Reads.Learnt POWER fits)
+rounded_over_determined POWER fits _ _ _ _ _ _ = answers
 
 pub rounded_quotient_determined : Determines rounding.rounded_quotient.ended rounding_proofs.rounded_quotient.Reads.Learnt
 rounded_quotient_determined _ _ _ _ _ _ p q = (ap nat_abs (determined p q), refl)
 
 -- numbers
-pub number1_determined : Determines fields.number1.ended fields_proofs.number1.Reads.Learnt
-number1_determined _ _ _ _ _ _ = answers
+pub u8_at_determined : Determines fields.U8Number.at.ended fields_proofs.U8Number.at.Reads.Learnt
+u8_at_determined _ _ _ _ _ _ = answers
 
-pub number2_determined : Determines fields.number2.ended fields_proofs.number2.Reads.Learnt
-number2_determined _ _ _ _ _ _ = answers
+pub u16_at_determined : Determines fields.U16Number.at.ended fields_proofs.U16Number.at.Reads.Learnt
+u16_at_determined _ _ _ _ _ _ = answers
 
-pub number4_determined : Determines fields.number4.ended fields_proofs.number4.Reads.Learnt
-number4_determined _ _ _ _ _ _ = answers
+pub u32_at_determined : Determines fields.U32Number.at.ended fields_proofs.U32Number.at.Reads.Learnt
+u32_at_determined _ _ _ _ _ _ = answers
 
-pub number8_determined : Determines fields.number8.ended fields_proofs.number8.Reads.Learnt
-number8_determined _ _ _ _ _ _ = answers
+pub u64_at_determined : Determines fields.U64Number.at.ended fields_proofs.U64Number.at.Reads.Learnt
+u64_at_determined _ _ _ _ _ _ = answers
 
-pub signed4_determined : Determines fields.signed4.ended fields_proofs.signed4.Reads.Learnt
-signed4_determined _ _ _ _ _ _ = answers
+pub i32_at_determined : Determines fields.I32Number.at.ended fields_proofs.I32Number.at.Reads.Learnt
+i32_at_determined _ _ _ _ _ _ = answers
 
-pub signed8_determined : Determines fields.signed8.ended fields_proofs.signed8.Reads.Learnt
-signed8_determined _ _ _ _ _ _ = answers
-
-pub number_of_8_determined : Determines fields.number_of_8.ended fields_proofs.number_of_8.Reads.Learnt
-number_of_8_determined _ _ _ _ _ _ = answers
-
-pub signed_of_8_determined : Determines fields.signed_of_8.ended fields_proofs.signed_of_8.Reads.Learnt
-signed_of_8_determined _ _ _ _ _ _ = answers
+pub i64_at_determined : Determines fields.I64Number.at.ended fields_proofs.I64Number.at.Reads.Learnt
+i64_at_determined _ _ _ _ _ _ = answers
 
 pub byte_sum_determined : Determines slices.byte_sum.ended slices_proofs.byte_sum.Reads.Learnt
 byte_sum_determined _ _ _ _ _ _ = answers
@@ -114,11 +113,20 @@ refused_determined _ _ _ _ _ _ = answers
 pub refused_at_determined : Determines refusals.refused_at.ended refusals_proofs.refused_at.Reads.Learnt
 refused_at_determined _ _ _ _ _ _ = answers
 
-pub verdict_for_c_determined : Determines refusals.verdict_for_c.ended refusals_proofs.verdict_for_c.Reads.Learnt
-verdict_for_c_determined _ _ _ _ _ _ = answers
+pub verdict_from_determined : Determines for_c.VerdictForCFromVerdict.from.ended for_c_proofs.VerdictForCFromVerdict.from.Reads.Learnt
+verdict_from_determined _ _ _ _ _ _ = answers
 
-pub filled_for_c_determined : Determines refusals.filled_for_c.ended refusals_proofs.filled_for_c.Reads.Learnt
-filled_for_c_determined _ _ _ _ _ _ = answers
+pub filled_from_determined : Determines for_c.FilledForCFromFilled.from.ended for_c_proofs.FilledForCFromFilled.from.Reads.Learnt
+filled_from_determined _ _ _ _ _ _ = answers
+
+pub number_determined : Determines reason.Reason.number.ended reason_proofs.Reason.number.Reads.Learnt
+number_determined _ _ _ _ _ _ = answers
+
+pub refused_by_reason_determined : (T : _) (laws : _) → Determines (reason.Reason.refused.ended T) (reason_proofs.Reason.refused.Reads.Learnt T laws)
+refused_by_reason_determined T laws _ _ _ _ _ _ = answers
+
+pub refused_at_by_reason_determined : Determines reason.Reason.refused_at.ended reason_proofs.Reason.refused_at.Reads.Learnt
+refused_at_by_reason_determined _ _ _ _ _ _ = answers
 
 pub settled_determined : Determines refusals.settled.ended refusals_proofs.settled.Reads.Learnt
 settled_determined _ _ _ _ _ _ p q = next (first (determined p.same q.same, determined p.cleared q.cleared))
@@ -200,8 +208,8 @@ place_of_determined _ _ _ _ _ _ = answers
 pub has_determined : Determines finder.has.ended finder_proofs.has.Reads.Learnt
 has_determined _ _ _ _ _ _ = answers
 
-pub place_for_c_determined : Determines finder.place_for_c.ended finder_proofs.place_for_c.Reads.Learnt
-place_for_c_determined _ _ _ _ _ _ = answers
+pub place_from_determined : Determines finder_for_c.PlaceForCFromOptionPlace.from.ended finder_for_c_proofs.PlaceForCFromOptionPlace.from.Reads.Learnt
+place_from_determined _ _ _ _ _ _ = answers
 
 pub part_at_determined : Alike finder.part_at.ended finder_proofs.part_at.Reads.Learnt (λ _. SamePart)
 part_at_determined _ _ _ _ _ _ = is_part
@@ -246,8 +254,8 @@ note_verdict_determined _ _ _ _ _ _ = answers
 pub measured_determined : Determines reading.measured.ended reading_proofs.measured.Reads.Learnt
 measured_determined _ _ _ _ _ _ = answers
 
-pub answer_for_c_determined : Determines reading.answer_for_c.ended reading_proofs.answer_for_c.Reads.Learnt
-answer_for_c_determined _ _ _ _ _ _ = answers
+pub answer_from_determined : Determines reading_for_c.AnswerForCFromAnswer.from.ended reading_for_c_proofs.AnswerForCFromAnswer.from.Reads.Learnt
+answer_from_determined _ _ _ _ _ _ = answers
 
 -- panel
 pub verdict_determined : Determines panel.verdict.ended panel_proofs.verdict.Reads.Learnt
@@ -293,11 +301,11 @@ panel_reading_determined _ _ _ _ _ _ = answers
 pub gauge_determined : Determines lamp.gauge.ended lamp_proofs.gauge.Reads.Learnt
 gauge_determined _ _ _ _ _ _ = answers
 
-pub status_for_c_determined : Determines lamp.status_for_c.ended lamp_proofs.status_for_c.Reads.Learnt
-status_for_c_determined _ _ _ _ _ _ = answers
+pub status_from_determined : Determines lamp_for_c.StatusForCFromPanel.from.ended lamp_for_c_proofs.StatusForCFromPanel.from.Reads.Learnt
+status_from_determined _ _ _ _ _ _ = answers
 
-pub gauge_for_c_determined : Determines lamp.gauge_for_c.ended lamp_proofs.gauge_for_c.Reads.Learnt
-gauge_for_c_determined _ _ _ _ _ _ = answers
+pub gauge_from_determined : Determines lamp_for_c.GaugeForCFromIdentified.from.ended lamp_for_c_proofs.GaugeForCFromIdentified.from.Reads.Learnt
+gauge_from_determined _ _ _ _ _ _ = answers
 
 -- bjorkneve
 pub bjorkneve_read_determined : Determines bjorkneve.bjorkneve_read.ended bjorkneve_proofs.bjorkneve_read.Reads.Learnt

@@ -1,6 +1,8 @@
 -- Nothing has to be tested before a call: no public function's contract asks anything of its caller. `requires` is the function's own, as Rattle exports it.
 -- `tools/contracts` fails where a public function is left out.
-use Rattle.std.specs.Prelude.{refl}
+use denote.Param.{number}
+use contract.BorrowLft.{◌⊑◌}
+use Rattle.std.specs.Prelude.{ℕ, refl, []}
 use Rattle.whole.specs.contracts as whole
 use Rattle.whole.proofs as whole_proofs
 use Rattle.whole.specs.contracts.rounding as rounding
@@ -11,6 +13,10 @@ use Rattle.numbers.specs.contracts.slices as slices
 use Rattle.numbers.proofs.slices as slices_proofs
 use Rattle.refusals.specs.contracts as refusals
 use Rattle.refusals.proofs as refusals_proofs
+use Rattle.refusals.specs.contracts.for_c as for_c
+use Rattle.refusals.proofs.for_c as for_c_proofs
+use Rattle.refusals.specs.contracts.reason as reason
+use Rattle.refusals.proofs.reason as reason_proofs
 use Rattle.hexdigits.specs.contracts as hexdigits
 use Rattle.hexdigits.proofs as hexdigits_proofs
 use Rattle.hexline.specs.contracts as hexline
@@ -27,6 +33,8 @@ use Rattle.layout.specs.contracts as layout
 use Rattle.layout.proofs as layout_proofs
 use Rattle.finder.specs.contracts as finder
 use Rattle.finder.proofs as finder_proofs
+use Rattle.finder.specs.contracts.for_c as finder_for_c
+use Rattle.finder.proofs.for_c as finder_for_c_proofs
 use Rattle.builder.specs.contracts as builder
 use Rattle.builder.proofs as builder_proofs
 use Rattle.sets.specs.contracts as sets
@@ -35,15 +43,19 @@ use Rattle.bodies.specs.contracts as bodies
 use Rattle.bodies.proofs as bodies_proofs
 use Rattle.reading.specs.contracts as reading
 use Rattle.reading.proofs as reading_proofs
+use Rattle.reading.specs.contracts.for_c as reading_for_c
+use Rattle.reading.proofs.for_c as reading_for_c_proofs
 use Rattle.panel.specs.contracts as panel
 use Rattle.panel.proofs as panel_proofs
 use Rattle.lamp.specs.contracts as lamp
 use Rattle.lamp.proofs as lamp_proofs
+use Rattle.lamp.specs.contracts.for_c as lamp_for_c
+use Rattle.lamp.proofs.for_c as lamp_for_c_proofs
 use Rattle.bjorkneve.specs.contracts as bjorkneve
 use Rattle.bjorkneve.proofs as bjorkneve_proofs
 use Rattle.display.specs.contracts as display
 use Rattle.display.proofs as display_proofs
-use Rattle.contracts.specs.Contract.{AsksNothing}
+use Rattle.contracts.specs.Contract.{AsksNothing, AsksItsParameter}
 use Rattle.calls.specs.BuildReads as build
 
 -- whole
@@ -59,42 +71,30 @@ beyond_free _ _ _ = refl
 pub wrapped_sum_free : AsksNothing whole.wrapped_sum.ended whole_proofs.wrapped_sum.Reads.requires
 wrapped_sum_free _ _ _ = refl
 
-pub rounded_over_2_24_free : AsksNothing rounding.rounded_over_2_24.ended rounding_proofs.rounded_over_2_24.Reads.requires
-rounded_over_2_24_free _ _ _ = refl
-
-pub rounded_over_2_28_free : AsksNothing rounding.rounded_over_2_28.ended rounding_proofs.rounded_over_2_28.Reads.requires
-rounded_over_2_28_free _ _ _ = refl
-
-pub rounded_over_2_32_free : AsksNothing rounding.rounded_over_2_32.ended rounding_proofs.rounded_over_2_32.Reads.requires
-rounded_over_2_32_free _ _ _ = refl
+pub rounded_over_free : (POWER : ℕ) (fits : _) → AsksItsParameter (rounding.rounded_over.ended (number POWER)) (λ κs. κs.0 ⊑ []) (rounding_proofs.rounded_over.Reads.requires POWER fits)
+rounded_over_free POWER fits _ _ _ = refl
 
 pub rounded_quotient_free : AsksNothing rounding.rounded_quotient.ended rounding_proofs.rounded_quotient.Reads.requires
 rounded_quotient_free _ _ _ = refl
 
 -- numbers
-pub number1_free : AsksNothing fields.number1.ended fields_proofs.number1.Reads.requires
-number1_free _ _ _ = refl
+pub u8_at_free : AsksNothing fields.U8Number.at.ended fields_proofs.U8Number.at.Reads.requires
+u8_at_free _ _ _ = refl
 
-pub number2_free : AsksNothing fields.number2.ended fields_proofs.number2.Reads.requires
-number2_free _ _ _ = refl
+pub u16_at_free : AsksNothing fields.U16Number.at.ended fields_proofs.U16Number.at.Reads.requires
+u16_at_free _ _ _ = refl
 
-pub number4_free : AsksNothing fields.number4.ended fields_proofs.number4.Reads.requires
-number4_free _ _ _ = refl
+pub u32_at_free : AsksNothing fields.U32Number.at.ended fields_proofs.U32Number.at.Reads.requires
+u32_at_free _ _ _ = refl
 
-pub number8_free : AsksNothing fields.number8.ended fields_proofs.number8.Reads.requires
-number8_free _ _ _ = refl
+pub u64_at_free : AsksNothing fields.U64Number.at.ended fields_proofs.U64Number.at.Reads.requires
+u64_at_free _ _ _ = refl
 
-pub signed4_free : AsksNothing fields.signed4.ended fields_proofs.signed4.Reads.requires
-signed4_free _ _ _ = refl
+pub i32_at_free : AsksNothing fields.I32Number.at.ended fields_proofs.I32Number.at.Reads.requires
+i32_at_free _ _ _ = refl
 
-pub signed8_free : AsksNothing fields.signed8.ended fields_proofs.signed8.Reads.requires
-signed8_free _ _ _ = refl
-
-pub number_of_8_free : AsksNothing fields.number_of_8.ended fields_proofs.number_of_8.Reads.requires
-number_of_8_free _ _ _ = refl
-
-pub signed_of_8_free : AsksNothing fields.signed_of_8.ended fields_proofs.signed_of_8.Reads.requires
-signed_of_8_free _ _ _ = refl
+pub i64_at_free : AsksNothing fields.I64Number.at.ended fields_proofs.I64Number.at.Reads.requires
+i64_at_free _ _ _ = refl
 
 pub byte_sum_free : AsksNothing slices.byte_sum.ended slices_proofs.byte_sum.Reads.requires
 byte_sum_free _ _ _ = refl
@@ -112,11 +112,20 @@ refused_free _ _ _ = refl
 pub refused_at_free : AsksNothing refusals.refused_at.ended refusals_proofs.refused_at.Reads.requires
 refused_at_free _ _ _ = refl
 
-pub verdict_for_c_free : AsksNothing refusals.verdict_for_c.ended refusals_proofs.verdict_for_c.Reads.requires
-verdict_for_c_free _ _ _ = refl
+pub verdict_from_free : AsksNothing for_c.VerdictForCFromVerdict.from.ended for_c_proofs.VerdictForCFromVerdict.from.Reads.requires
+verdict_from_free _ _ _ = refl
 
-pub filled_for_c_free : AsksNothing refusals.filled_for_c.ended refusals_proofs.filled_for_c.Reads.requires
-filled_for_c_free _ _ _ = refl
+pub filled_from_free : AsksNothing for_c.FilledForCFromFilled.from.ended for_c_proofs.FilledForCFromFilled.from.Reads.requires
+filled_from_free _ _ _ = refl
+
+pub number_free : AsksNothing reason.Reason.number.ended reason_proofs.Reason.number.Reads.requires
+number_free _ _ _ = refl
+
+pub refused_by_reason_free : (T : _) (laws : _) → AsksItsParameter (reason.Reason.refused.ended T) (λ κs. κs.0 ⊑ T.lives) (reason_proofs.Reason.refused.Reads.requires T laws)
+refused_by_reason_free T laws _ _ _ = refl
+
+pub refused_at_by_reason_free : AsksNothing reason.Reason.refused_at.ended reason_proofs.Reason.refused_at.Reads.requires
+refused_at_by_reason_free _ _ _ = refl
 
 pub settled_free : AsksNothing refusals.settled.ended refusals_proofs.settled.Reads.requires
 settled_free _ _ _ = refl
@@ -198,8 +207,8 @@ place_of_free _ _ _ = refl
 pub has_free : AsksNothing finder.has.ended finder_proofs.has.Reads.requires
 has_free _ _ _ = refl
 
-pub place_for_c_free : AsksNothing finder.place_for_c.ended finder_proofs.place_for_c.Reads.requires
-place_for_c_free _ _ _ = refl
+pub place_from_free : AsksNothing finder_for_c.PlaceForCFromOptionPlace.from.ended finder_for_c_proofs.PlaceForCFromOptionPlace.from.Reads.requires
+place_from_free _ _ _ = refl
 
 pub part_at_free : AsksNothing finder.part_at.ended finder_proofs.part_at.Reads.requires
 part_at_free _ _ _ = refl
@@ -244,8 +253,8 @@ note_verdict_free _ _ _ = refl
 pub measured_free : AsksNothing reading.measured.ended reading_proofs.measured.Reads.requires
 measured_free _ _ _ = refl
 
-pub answer_for_c_free : AsksNothing reading.answer_for_c.ended reading_proofs.answer_for_c.Reads.requires
-answer_for_c_free _ _ _ = refl
+pub answer_from_free : AsksNothing reading_for_c.AnswerForCFromAnswer.from.ended reading_for_c_proofs.AnswerForCFromAnswer.from.Reads.requires
+answer_from_free _ _ _ = refl
 
 -- panel
 pub verdict_free : AsksNothing panel.verdict.ended panel_proofs.verdict.Reads.requires
@@ -291,11 +300,11 @@ panel_reading_free _ _ _ = refl
 pub gauge_free : AsksNothing lamp.gauge.ended lamp_proofs.gauge.Reads.requires
 gauge_free _ _ _ = refl
 
-pub status_for_c_free : AsksNothing lamp.status_for_c.ended lamp_proofs.status_for_c.Reads.requires
-status_for_c_free _ _ _ = refl
+pub status_from_free : AsksNothing lamp_for_c.StatusForCFromPanel.from.ended lamp_for_c_proofs.StatusForCFromPanel.from.Reads.requires
+status_from_free _ _ _ = refl
 
-pub gauge_for_c_free : AsksNothing lamp.gauge_for_c.ended lamp_proofs.gauge_for_c.Reads.requires
-gauge_for_c_free _ _ _ = refl
+pub gauge_from_free : AsksNothing lamp_for_c.GaugeForCFromIdentified.from.ended lamp_for_c_proofs.GaugeForCFromIdentified.from.Reads.requires
+gauge_from_free _ _ _ = refl
 
 -- bjorkneve
 pub bjorkneve_read_free : AsksNothing bjorkneve.bjorkneve_read.ended bjorkneve_proofs.bjorkneve_read.Reads.requires

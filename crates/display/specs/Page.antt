@@ -1,9 +1,8 @@
 -- What the show program prints of a HEX text, and the room that each part takes on the page where its numbers are longest.
-use Rattle.std.specs.Prelude.{cond, List, [], ◌++◌, ℕ, zero, suc, ◌+◌, ◌*◌, leb, length}
+use Rattle.std.specs.Prelude.{cond, List, [], ◌++◌, ℕ, zero, suc, ◌+◌, ◌*◌, leb, length, Err, Ok}
 use Rattle.limits.specs.Limits.{largest_image, last_level, longest_shown_text}
 use Rattle.laws.specs.Characters.{characters}
-use Rattle.refusals.specs.declared.Verdict.{Verdict}
-use Rattle.refusals.specs.declared.Verdict.TheVariants.{Accepted, Refused}
+use Rattle.refusals.specs.Answers.{Verdict}
 use Rattle.refusals.specs.Refusals.{Outcome, result, refused, refusal}
 use Rattle.hextext.specs.Text.{read_text}
 use Rattle.image.specs.Find.{found, or_else}
@@ -48,8 +47,8 @@ image_words image = accepted_words (identity_of (body_found image 1)) (prescales
 -- ---- the page
 
 abbrev verdict_words : Verdict → (image : List ℕ) → List ℕ
-verdict_words Accepted image = image_words image
-verdict_words (Refused r) image = refused_words r.number r.detail
+verdict_words (Ok tt) image = image_words image
+verdict_words (Err r) image = refused_words r.number r.detail
 
 unfoldable pub level_line : (level : ℕ) (image : List ℕ) → List ℕ
 level_line level image = field (characters "level ") level ++ verdict_words (verdict_of level image) image

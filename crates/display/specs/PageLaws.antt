@@ -1,17 +1,14 @@
 -- What a function of the code has put on the page, by what its calls have put there.
-use Rattle.std.specs.Prelude.{◌≡◌, List, ◌++◌, ℕ, suc, ◌+◌, ◌-◌, ◌*◌, ◌≤◌, ◌<◌, length, take, drop, replicate}
-use Rattle.std.proofs.Common.{sym, ap, ◌∙◌, append-nil, add-one, arith, le-leb, length-append, length-take}
+use Rattle.std.specs.Prelude.{◌≡◌, List, ◌++◌, ℕ, suc, ◌+◌, ◌-◌, ◌*◌, ◌≤◌, ◌<◌, length, take, drop, Err, Ok}
+use Rattle.std.proofs.Common.{sym, ap, ◌∙◌, append-nil, arith, le-leb, length-take}
 use Rattle.std.proofs.lemmas.Bool.{lt-leb}
 use Rattle.std.specs.Borrow.{Bor}
-use Rattle.io.specs.Counts.{IsPrefixLen}
 use Rattle.limits.specs.Limits.{largest_image, last_level, longest_shown_text}
 use Rattle.laws.specs.Characters.{characters}
 use Rattle.numbers.specs.Slices.{cleared_from}
 use Rattle.refusals.specs.declared.Refusal.{Refusal}
-use Rattle.refusals.specs.declared.Verdict.{Verdict}
-use Rattle.refusals.specs.declared.Verdict.TheVariants.{Accepted, Refused as NotAccepted}
-use Rattle.refusals.specs.declared.Filled.{Filled}
-use Rattle.refusals.specs.declared.Filled.TheVariants.{Length, Refused}
+use Rattle.refusals.specs.Answers.{Verdict}
+use Rattle.refusals.specs.Answers.{Filled}
 use Rattle.refusals.specs.Refusals.{result, held_after, Fills}
 use Rattle.refusals.specs.RefusalsLaws.{refused_of, result_of}
 use Rattle.hextext.specs.Text.{read_text}
@@ -32,18 +29,18 @@ use Rattle.display.specs.WordsLaws.{printed_then, four_printed}
 
 -- a panel accepts no image whose layout is not good
 pub verdict_laid : (level : ℕ) (image : List ℕ) (verdict : Verdict)
-    → verdict ≡ verdict_of level image → verdict ≡ Accepted → layout_verdict image ≡ Accepted
+    → verdict ≡ verdict_of level image → verdict ≡ Ok tt → layout_verdict image ≡ Ok tt
 verdict_laid level image verdict e a = (accepted_first_kinds level image verdict e a).good
 
 module _ (page a b c d : Page) where
-  pub identity_printed : (i : Identity) (body : List ℕ) → i ≡ identity_of body
-      → printed a ≡ printed page ++ field (characters " serial ") i.serial
-      → printed b ≡ printed a ++ field (characters " date ") i.year
+  pub identity_printed : (i : Identity) (body : List ℕ) (serial year : ℕ) → i ≡ identity_of body → serial ≡ i.serial → year ≡ i.year
+      → printed a ≡ printed page ++ field (characters " serial ") serial
+      → printed b ≡ printed a ++ field (characters " date ") year
       → printed c ≡ printed b ++ two_digits i.month
       → printed d ≡ printed c ++ two_digits i.day
       → printed d ≡ printed page ++ identity_words (identity_of body)
   unfolding identity_words
-  identity_printed i body e s y m t = rw (← e) (four_printed page a b c d _ _ _ _ s y m t)
+  identity_printed i body serial year e p q s y m t = rw (← e) (four_printed page a b c d _ _ _ _ (rw p at s) (rw q at y) m t)
 
   pub image_printed : (image first second third : Bor (List ℕ)) → Found image first 1 → Found image second 2 → Found image third 3
       → printed a ≡ printed page ++ identity_words (identity_of first.now)
@@ -68,11 +65,11 @@ module _ (page a b : Page) where
 
   module _ (level : ℕ) (image : List ℕ) (verdict : Verdict) (e : verdict ≡ verdict_of level image)
       (w : printed a ≡ printed page ++ field (characters "level ") level) where
-    pub level_accepted : verdict ≡ Accepted → printed b ≡ printed a ++ image_words image → printed b ≡ printed page ++ level_line level image
+    pub level_accepted : verdict ≡ Ok tt → printed b ≡ printed a ++ image_words image → printed b ≡ printed page ++ level_line level image
     unfolding level_line
     level_accepted k v = rw (← e, k) (printed_then page a b (field (characters "level ") level) (image_words image) w v)
 
-    pub level_refused : (r : Refusal) → verdict ≡ NotAccepted r → printed b ≡ printed a ++ refused_words r.number r.detail
+    pub level_refused : (r : Refusal) → verdict ≡ Err r → printed b ≡ printed a ++ refused_words r.number r.detail
         → printed b ≡ printed page ++ level_line level image
     unfolding level_line
     level_refused r k v = rw (← e, k) (printed_then page a b (field (characters "level ") level) (refused_words r.number r.detail) w v)
@@ -84,30 +81,34 @@ orders_printed page a set words body e w = rw (← e) w
 
 -- ---- the lines of all levels
 
--- the loop's invariant: the lines of the first `level` levels are on the page
+-- the loop's invariant: the lines of the levels before this one are on the page
 pub record LevelsPrinted (page₀ : Page) (image : List ℕ) (page : Page) (level : ℕ) : Type 0 where
-  pub within : level ≤ last_level
-  pub room : page.end ≤ level * level_room
-  pub lines : printed page ≡ printed page₀ ++ level_lines level image
+  pub some : 1 ≤ level
+  pub within : level ≤ last_level + 1
+  pub room : page.end + level_room ≤ level * level_room
+  pub lines : printed page ≡ printed page₀ ++ level_lines (level - 1) image
 
-pub levels_first : (page : Page) (image : List ℕ) → page.end ≡ 0 → LevelsPrinted page image page 0
+pub levels_first : (page : Page) (image : List ℕ) → page.end ≡ 0 → LevelsPrinted page image page 1
 unfolding level_lines
-levels_first page image e = record { within = omega arith; room = omega arith; lines = sym (append-nil (printed page)) }
+levels_first page image e = record { some = omega arith; within = omega arith; room = omega arith; lines = sym (append-nil (printed page)) }
 
 module _ (page₀ : Page) (image : List ℕ) (page : Page) (level : ℕ) (h : LevelsPrinted page₀ image page level) where
-  pub levels_more : (next : Page) → level < last_level → printed next ≡ printed page ++ level_line (level + 1) image
+  pub levels_room : level ≤ last_level → page.end + level_room ≤ page_room
+  levels_room k = omega (arith, h.some, h.room)
+
+  pub levels_more : (next : Page) → level ≤ last_level → printed next ≡ printed page ++ level_line level image
       → next.end ≤ page.end + level_room → LevelsPrinted page₀ image next (level + 1)
   unfolding level_lines
-  levels_more next k e room =
-      let line = rw (add-one level) at e in
-      record {
-        within = omega arith;
-        room = omega (arith, h.room);
-        lines = rw (add-one level) (printed_then page₀ page next (level_lines level image) (level_line (suc level) image) h.lines line);
-      }
+  levels_more next k e room = record { some = omega arith; within = omega arith; room = omega (arith, h.room); lines = by (level - 1) (omega (arith, h.some)) h.lines }
+    where
+      by : (before : ℕ) → level ≡ suc before → printed page ≡ printed page₀ ++ level_lines before image
+          → printed next ≡ printed page₀ ++ level_lines (level + 1 - 1) image
+      by before same lines =
+          let last : level + 1 - 1 ≡ suc before = omega arith in
+          rw last (printed_then page₀ page next (level_lines before image) (level_line (suc before) image) lines (rw same at e))
 
-  pub levels_end : last_level ≤ level → printed page ≡ printed page₀ ++ level_lines last_level image
-  levels_end k = let all : level ≡ last_level = omega (arith, h.within) in rw all at h.lines
+  pub levels_end : last_level < level → printed page ≡ printed page₀ ++ level_lines last_level image
+  levels_end k = let all : level - 1 ≡ last_level = omega (arith, h.within) in rw all at h.lines
 
 -- ---- the page
 
@@ -118,32 +119,28 @@ module _ (page r : Page) (given : List ℕ) where
 
   module _ (h : length given ≤ longest_shown_text) (answer : Filled) (before after : List ℕ)
       (f : Fills (read_text (length before) given) before answer after) (room : length before ≡ largest_image) where
-    pub refusal_printed : (refusal : Refusal) → answer ≡ Refused refusal
+    pub refusal_printed : (refusal : Refusal) → answer ≡ Err refusal
         → printed r ≡ printed page ++ text_refused refusal.number refusal.detail → printed r ≡ printed page ++ page_of given
     unfolding page_of
     refusal_printed refusal e p =
         rw (le-leb (length given) longest_shown_text h, ← room, refused_of (read_text (length before) given) before after answer f refusal e) p
 
-    pub read_printed : (n : ℕ) (image : List ℕ) → answer ≡ Length n → image ≡ take n (drop 0 after)
+    pub read_printed : (n : ℕ) (image : List ℕ) → answer ≡ Ok n → image ≡ take n (drop 0 after)
         → printed r ≡ printed page ++ level_lines last_level image → printed r ≡ printed page ++ page_of given
     unfolding page_of
     read_printed n image e i p =
         rw (le-leb (length given) longest_shown_text h, ← room, result_of (read_text (length before) given) before after answer f n e)
         (rw i at p)
 
-module _ (lent words : List ℕ) (start page : Page) (s : start ≡ record { bytes = lent; end = 0 }) (e : printed page ≡ printed start ++ words)
-    (room : page.end ≤ page_room) (long : length page.bytes ≡ page_room) where
+module _ (words : List ℕ) (start page : Page) (z : start.end ≡ 0) (e : printed page ≡ printed start ++ words) where
   page_is : take page.end page.bytes ≡ words
   unfolding printed
-  page_is = rw s at e
+  page_is = rw z at e
 
   pub page_ends : page.end ≡ length words
-  page_ends = omega (arith, length-take page.end page.bytes, ap length page_is)
+  page_ends = omega (arith, length-take page.end page.bytes, ap length page_is, page.within)
 
   -- the page once it is cleared after what is printed
-  pub page_shown : (after : List ℕ) → after ≡ cleared_from page.end page.bytes → length start.bytes ≡ page_room
-      → (page.end ≡ length words) × ((after ≡ held_after (length lent) (result words)) × IsPrefixLen page.end after)
-  page_shown after c k =
-      let joined = length-append (take page.end page.bytes) (replicate (length page.bytes - page.end) 0) in
-      let within : page.end ≤ length after = rw c (omega (arith, joined, length-take page.end page.bytes)) in
-      (page_ends, (c ∙ rw (page_is, long, ← k, s, page_ends), (within, omega (arith, length-take page.end after))))
+  pub page_shown : (lent after : List ℕ) → after ≡ cleared_from page.end page.bytes → length page.bytes ≡ length lent
+      → after ≡ held_after (length lent) (result words)
+  page_shown lent after c long = c ∙ rw (page_is, long, page_ends)

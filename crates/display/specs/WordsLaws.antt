@@ -1,6 +1,6 @@
 -- What is printed on a page, words after words, and the digits of a number.
-use Rattle.std.specs.Prelude.{◌≡◌, List, [], ◌∷◌, ◌++◌, ℕ, zero, suc, ◌+◌, ◌-◌, ◌*◌, ◌/◌, ◌%◌, ◌^◌, ◌≤◌, ◌<◌, length, take, get_or, set}
-use Rattle.std.proofs.Common.{sym, append-nil, append_assoc, arith, add-one, lt-ltb, le-ltb, take-suc, take_all, take-suc-set}
+use Rattle.std.specs.Prelude.{◌≡◌, List, [], ◌∷◌, ◌++◌, ℕ, zero, suc, ◌+◌, ◌-◌, ◌*◌, ◌/◌, ◌%◌, ◌^◌, ◌≤◌, ◌<◌, length, take}
+use Rattle.std.proofs.Common.{append_assoc, arith, lt-ltb, le-ltb}
 use Rattle.std.proofs.Math.Nat.{one-le-pow, pow-le-pow_right}
 use Rattle.std.proofs.Math.Numerals.{unary_clauses}
 use Rattle.io.specs.Counts.{IsPrefixLen}
@@ -10,11 +10,6 @@ use Rattle.laws.specs.Characters.{characters}
 use Rattle.display.specs.declared.words.Page.{Page}
 use Rattle.display.specs.Words.{printed, digit, decimal_in, decimal, field, pair, two_digits, number_room}
 
-pub character_printed : (page : Page) (c : ℕ) → page.end < length page.bytes
-    → printed (record { bytes = set page.bytes page.end c; end = page.end + 1 }) ≡ printed page ++ c ∷ []
-unfolding printed
-character_printed page c h = rw (add-one page.end) (take-suc-set page.bytes page.end c h)
-
 pub printed_then : (page a b : Page) (p q : List ℕ) → printed a ≡ printed page ++ p → printed b ≡ printed a ++ q → printed b ≡ printed page ++ (p ++ q)
 printed_then page a b p q e f = rw (f, e) (append_assoc (printed page) p q)
 
@@ -22,30 +17,6 @@ pub four_printed : (page a b c d : Page) (p q s t : List ℕ)
     → printed a ≡ printed page ++ p → printed b ≡ printed a ++ q → printed c ≡ printed b ++ s → printed d ≡ printed c ++ t
     → printed d ≡ printed page ++ (p ++ q ++ s ++ t)
 four_printed page a b c d p q s t e f g h = rw (h, g, f, e) (simp append_assoc)
-
--- ---- the words copied
-
--- the loop's invariant: the first i of the words are on the page
-pub record Putting (page₀ : Page) (words : List ℕ) (page : Page) (i : ℕ) : Type 0 where
-  pub within : i ≤ length words
-  pub ends : page.end ≡ page₀.end + i
-  pub wrote : printed page ≡ printed page₀ ++ take i words
-
-pub putting_first : (page : Page) (words : List ℕ) → Putting page words page 0
-putting_first page words = record { within = omega arith; ends = omega arith; wrote = sym (append-nil (printed page)) }
-
-module _ (page₀ : Page) (words : List ℕ) (page : Page) (i : ℕ) (h : Putting page₀ words page i) where
-  pub putting_more : (next : Page) → i < length words
-      → printed next ≡ printed page ++ get_or words i 0 ∷ [] → next.end ≡ page.end + 1 → Putting page₀ words next (i + 1)
-  putting_more next k e f =
-      record {
-        within = omega arith;
-        ends = omega (arith, h.ends);
-        wrote = rw (add-one i, take-suc words i 0 k) (printed_then page₀ page next (take i words) (get_or words i 0 ∷ []) h.wrote e);
-      }
-
-  pub putting_end : length words ≤ i → printed page ≡ printed page₀ ++ words
-  putting_end k = rw (take_all i words k) at h.wrote
 
 -- ---- the digits of a number
 

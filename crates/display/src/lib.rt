@@ -18,14 +18,15 @@ const LEVEL_ROOM: usize = 230;
 pub const PAGE_SIZE: usize = limits::LAST_LEVEL as usize * LEVEL_ROOM;
 
 // The page's bytes from its start on, as many as the answer says, are what is printed; zeros stand after them.
+#[tactic(auto, using(crate::specs::PageLaws::page_ends, crate::specs::PageLaws::page_shown))]
 pub fn show(text: &[u8], page: &mut [u8; PAGE_SIZE]) -> usize
-    ensures r_value { result ≡ length (page_of text.now) }
-    ensures page_after { page.new ≡ held_after (length page.old) (result_held (page_of text.now)) }
-    ensures fact { IsPrefixLen result page.new }
+    ensures end { result ≡ length (page_of text.now) }
+    ensures page { page.new ≡ held_after (length page.old) (result_held (page_of text.now)) }
+    ensures within { IsPrefixLen result page.new }
 {
-    let printed = page::put_page(words::empty(*page), text);
-    let bytes = printed.bytes;
-    *page = bytes;
+    let mut printed = words::Page::empty(*page);
+    printed.put_page(text);
+    *page = printed.bytes;
     numbers::slices::clear_from(page, printed.end);
     printed.end
 }

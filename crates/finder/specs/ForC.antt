@@ -1,13 +1,8 @@
 -- A place as C gets it.
-use Rattle.std.specs.Prelude.{Bool, true, false}
+use Rattle.std.specs.Prelude.{Option, is_some}
 use Rattle.finder.specs.declared.Place.{Place}
-use Rattle.finder.specs.declared.Place.TheVariants.{At, Nowhere}
 use Rattle.finder.specs.declared.for_c.PlaceForC.{PlaceForC}
 use Rattle.finder.specs.Places.{start_of, length_of}
 
-abbrev pub somewhere : Place → Bool
-somewhere (At offset size) = true
-somewhere Nowhere = false
-
-abbrev pub place_for_c : Place → PlaceForC
-place_for_c place = record { there = somewhere place; offset = start_of place; length = length_of place }
+abbrev pub place_for_c : Option Place → PlaceForC
+place_for_c place = record { there = is_some place; offset = start_of place; length = length_of place }

@@ -2,4 +2,3 @@ pub mod Places
 pub mod ForC
 pub mod PlacesLaws
 pub mod FinderLaws
-pub mod ForCLaws

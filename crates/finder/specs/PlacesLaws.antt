@@ -1,11 +1,11 @@
 -- Laws of places: in a good layout, what the lines say of a kind is what is found, and stands inside the image.
-use Rattle.std.specs.Prelude.{List, ◌≡◌, refl, ℕ, zero, suc, ◌+◌, ◌≤◌, ◌<◌, eqb, length, take, drop}
-use Rattle.std.proofs.Math.Option.{Option, none, some}
+use Rattle.std.specs.Prelude.{List, ◌≡◌, refl, ℕ, zero, suc, ◌+◌, ◌≤◌, ◌<◌, eqb, length, take, drop, Err, None, Ok, Option, Some}
+use Rattle.std.proofs.Math.Option.{none, some}
+use Rattle.std.proofs.Math.Option as plain
 use Rattle.std.proofs.Common.{◌∙◌, add-zero, zero-add, arith, length-drop, length-take-le}
 use Rattle.laws.specs.Cases.{decide}
 use Rattle.refusals.specs.declared.Refusal.{Refusal}
-use Rattle.refusals.specs.declared.Verdict.{Verdict}
-use Rattle.refusals.specs.declared.Verdict.TheVariants.{Accepted, Refused}
+use Rattle.refusals.specs.Answers.{Verdict}
 use Rattle.image.specs.Contents.{line_count, kind_at, offset_at, length_at}
 use Rattle.image.specs.Layout.{layout_verdict}
 use Rattle.image.specs.LayoutLaws.{body_within}
@@ -13,22 +13,21 @@ use Rattle.image.specs.Sections.{sections_from, sections}
 use Rattle.image.specs.Find.{body_of, found, offset_from, found_offset}
 use Rattle.image.proofs.FindLaws.{found_good, offset_good}
 use Rattle.finder.specs.declared.Place.{Place}
-use Rattle.finder.specs.declared.Place.TheVariants.{At, Nowhere}
 use Rattle.finder.specs.Places.{stated_from, stated_place, placed}
 
 -- ---- what a place says
 
-abbrev pub offset_said : Place → Option ℕ
-offset_said (At offset size) = some offset
-offset_said Nowhere = none
+abbrev pub offset_said : Option Place → plain.Option ℕ
+offset_said (Some place) = some place.offset
+offset_said None = none
 
-abbrev pub body_said : List ℕ → Place → Option (List ℕ)
-body_said image (At offset size) = some (take size (drop offset image))
-body_said image Nowhere = none
+abbrev pub body_said : List ℕ → Option Place → plain.Option (List ℕ)
+body_said image (Some place) = some (take place.length (drop place.offset image))
+body_said image None = none
 
-abbrev pub Inside : List ℕ → Place → Type 0
-Inside image (At offset size) = offset + size ≤ length image
-Inside image Nowhere = Unit {0}
+abbrev pub Inside : List ℕ → Option Place → Type 0
+Inside image (Some place) = place.offset + place.length ≤ length image
+Inside image None = Unit {0}
 
 offset_stated : (image : List ℕ) (left i kind : ℕ) → offset_from image left i kind ≡ offset_said (stated_from image left i kind)
 unfolding offset_from stated_from
@@ -60,14 +59,14 @@ inside_stated image (suc left) i kind h =
 -- ---- what is found, by its place
 
 -- what is found under a kind stands at this place
-pub record IsPlace (image : List ℕ) (kind : ℕ) (place : Place) : Type 0 where
+pub record IsPlace (image : List ℕ) (kind : ℕ) (place : Option Place) : Type 0 where
   pub body_is : found image kind ≡ body_said image place
   pub offset_is : found_offset image kind ≡ offset_said place
   pub inside : Inside image place
 
 module _ (image : List ℕ) (kind : ℕ) where
   -- in a good layout, what the lines say
-  pub stated_is_place : layout_verdict image ≡ Accepted → IsPlace image kind (stated_place image kind)
+  pub stated_is_place : layout_verdict image ≡ Ok tt → IsPlace image kind (stated_place image kind)
   stated_is_place e =
       record {
         body_is = found_good image kind e ∙ body_said_lem image kind;
@@ -75,20 +74,20 @@ module _ (image : List ℕ) (kind : ℕ) where
         inside = inside_stated image (line_count image) 0 kind (λ (k : ℕ) (h : k < line_count image). rw (zero-add k) (body_within image e k h));
       }
 
-  pub ill_is_nowhere : (q : Refusal) → layout_verdict image ≡ Refused q → IsPlace image kind Nowhere
+  pub ill_is_nowhere : (q : Refusal) → layout_verdict image ≡ Err q → IsPlace image kind None
   unfolding found found_offset
   ill_is_nowhere q e = record { body_is = rw e; offset_is = rw e; inside = tt }
 
   -- and no other
-  pub only_place : (place : Place) → IsPlace image kind place → place ≡ placed (found_offset image kind) (found image kind)
-  only_place (At offset size) p =
-      let long = length-take-le size (drop offset image) (omega (arith, p.inside, length-drop offset image)) in
+  pub only_place : (place : Option Place) → IsPlace image kind place → place ≡ placed (found_offset image kind) (found image kind)
+  only_place (Some place) p =
+      let long = length-take-le place.length (drop place.offset image) (omega (arith, p.inside, length-drop place.offset image)) in
       rw (p.offset_is, p.body_is, long)
-  only_place Nowhere p = rw p.offset_is
+  only_place None p = rw p.offset_is
 
-  pub found_is_place : (place : Place) → place ≡ placed (found_offset image kind) (found image kind) → IsPlace image kind place
+  pub found_is_place : (place : Option Place) → place ≡ placed (found_offset image kind) (found image kind) → IsPlace image kind place
   found_is_place place p = go (layout_verdict image) refl
     where
       go : (v : Verdict) → layout_verdict image ≡ v → IsPlace image kind place
-      go Accepted e = rw (p, ← only_place (stated_place image kind) (stated_is_place e)) (stated_is_place e)
-      go (Refused q) e = rw (p, ← only_place Nowhere (ill_is_nowhere q e)) (ill_is_nowhere q e)
+      go (Ok tt) e = rw (p, ← only_place (stated_place image kind) (stated_is_place e)) (stated_is_place e)
+      go (Err q) e = rw (p, ← only_place None (ill_is_nowhere q e)) (ill_is_nowhere q e)

@@ -13,19 +13,21 @@ pub struct PlaceForC {
     pub length: usize,
 }
 
-pub fn place_for_c(place: Place) -> PlaceForC
-    ensures { result ≡ place_for_c place }
-{
-    match place {
-        Place::At(offset, length) => PlaceForC {
-            there: true,
-            offset,
-            length,
-        },
-        Place::Nowhere => PlaceForC {
-            there: false,
-            offset: 0,
-            length: 0,
-        },
+impl From<Option<Place>> for PlaceForC {
+    ghost from_gives = { λ place for_c. for_c ≡ place_for_c place };
+
+    fn from(place: Option<Place>) -> PlaceForC {
+        match place {
+            Some(place) => PlaceForC {
+                there: true,
+                offset: place.offset,
+                length: place.length,
+            },
+            None => PlaceForC {
+                there: false,
+                offset: 0,
+                length: 0,
+            },
+        }
     }
 }

@@ -10,11 +10,8 @@ use Rattle.hextext.proofs.RecordLaws.{digit_decimal, digit_upper_case, digit_low
 -- ---- a character
 
 module _ (first last c : ℕ) (inside : Bool) (e : inside ≡ (nat_le first c && nat_le c last)) (t : inside ≡ true) where
-  range_first : first ≤ c
+  pub range_first : first ≤ c
   range_first = leb-true first c (both_left (nat_le first c) (nat_le c last) (sym e ∙ t))
-
-  pub range_above : (less : ℕ) → less ≤ first → less ≤ c
-  range_above less h = let k = range_first in omega arith
 
   range_last : c ≤ last
   range_last = leb-true c last (both_right (nat_le first c) (nat_le c last) (sym e ∙ t))
@@ -26,11 +23,11 @@ module _ (c : ℕ) where
   pub decimal_digit : (inside : Bool) → inside ≡ (nat_le 48 c && nat_le c 57) → inside ≡ true → c - 48 ≡ digit c
   decimal_digit inside e t = ranged 48 57 c inside e t 48 (digit_decimal c)
 
-  pub upper_case_digit : (inside : Bool) → inside ≡ (nat_le 65 c && nat_le c 70) → inside ≡ true → c - 55 ≡ digit c
-  upper_case_digit inside e t = ranged 65 70 c inside e t 55 (digit_upper_case c)
+  pub upper_case_digit : (inside : Bool) → inside ≡ (nat_le 65 c && nat_le c 70) → inside ≡ true → c - 65 + 10 ≡ digit c
+  upper_case_digit inside e t = omega (arith, ranged 65 70 c inside e t 55 (digit_upper_case c), range_first 65 70 c inside e t)
 
-  pub lower_case_digit : (inside : Bool) → inside ≡ (nat_le 97 c && nat_le c 102) → inside ≡ true → c - 87 ≡ digit c
-  lower_case_digit inside e t = ranged 97 102 c inside e t 87 (digit_lower_case c)
+  pub lower_case_digit : (inside : Bool) → inside ≡ (nat_le 97 c && nat_le c 102) → inside ≡ true → c - 97 + 10 ≡ digit c
+  lower_case_digit inside e t = omega (arith, ranged 97 102 c inside e t 87 (digit_lower_case c), range_first 97 102 c inside e t)
 
   pub no_digit : (decimal upper lower : Bool) → decimal ≡ (nat_le 48 c && nat_le c 57) → upper ≡ (nat_le 65 c && nat_le c 70) → lower ≡ (nat_le 97 c && nat_le c 102)
       → decimal ≡ false → upper ≡ false → lower ≡ false → 16 ≡ digit c

@@ -1,6 +1,6 @@
 -- Pairs of characters one after the other: whether they are digits, and what their bytes add up to.
-use Rattle.std.specs.Prelude.{◌≡◌, ℕ, ◌+◌, ◌*◌, ◌/◌, ◌%◌, ◌<◌, ◌≤◌, max, true, false, List, length, drop, ◌≢◌, slice_index}
-use Rattle.std.proofs.Common.{◌∙◌, arith, eq-eqb, ne_eqb}
+use Rattle.std.specs.Prelude.{◌≡◌, ℕ, ◌+◌, ◌*◌, ◌/◌, ◌%◌, ◌<◌, ◌≤◌, max, true, false, List, length, drop, ◌≢◌, slice_index, Some, None}
+use Rattle.std.proofs.Common.{ap, ◌∙◌, arith, eq-eqb, ne_eqb}
 use Rattle.laws.specs.Cases.{split}
 use Rattle.laws.specs.Sums.{total}
 use Rattle.hextext.specs.Record.{digit, all_digits, bytes_of}
@@ -37,10 +37,10 @@ pub record AddingPairs (l : List ℕ) (from n s largest i : ℕ) : Type 0 where
 pub adding_first : (l : List ℕ) (from n : ℕ) → AddingPairs l from n 0 0 0
 adding_first l from n = record { within = omega arith; small = omega arith; good = λ h. add_up_none l from; bad = λ h. absurd (omega arith) }
 
-pub adding_more : (l : List ℕ) (from n s largest i : ℕ) → AddingPairs l from n s largest i → (high low next larger : ℕ) → from + n * 2 ≤ length l → i < n
+pub adding_more : (l : List ℕ) (from n s largest i : ℕ) → AddingPairs l from n s largest i → (high low next greater larger : ℕ) → from + n * 2 ≤ length l → i < n
     → high ≡ digit (slice_index l (from + i * 2)) → low ≡ digit (slice_index l (from + i * 2 + 1))
-    → next ≡ (s + (high % 16 * 16 + low % 16)) % 256 → larger ≡ max largest (max high low) → AddingPairs l from n next larger (i + 1)
-adding_more l from n s largest i h high low next larger long k p q e f =
+    → next ≡ (s + (high % 16 * 16 + low % 16)) % 256 → greater ≡ max high low → larger ≡ max largest greater → AddingPairs l from n next larger (i + 1)
+adding_more l from n s largest i h high low next greater larger long k p q e g f =
     record {
       within = omega arith;
       small = omega arith;
@@ -54,25 +54,26 @@ adding_more l from n s largest i h high low next larger long k p q e f =
 -- ---- all characters of a slice
 
 module _ (l : List ℕ) where
-  pub sum_odd : (length l % 2 ≢ 0) → 256 ≡ digits_sum l
+  pub sum_odd : (length l % 2 ≢ 0) → None ≡ digits_sum l
   unfolding digits_sum
   sum_odd h = rw (ne_eqb (length l % 2) 0 h)
 
   module _ (n s largest i : ℕ) (h : AddingPairs l 0 n s largest i) where
-    pub sum_more : (high low next larger : ℕ) → n * 2 ≤ length l → i < n → high ≡ digit (slice_index l (i * 2)) → low ≡ digit (slice_index l (i * 2 + 1))
-        → next ≡ (s + (high % 16 * 16 + low % 16)) % 256 → larger ≡ max largest (max high low) → AddingPairs l 0 n next larger (i + 1)
-    sum_more high low next larger long k p q e f =
+    pub sum_more : (high low next greater larger : ℕ) → n * 2 ≤ length l → i < n → high ≡ digit (slice_index l (i * 2)) → low ≡ digit (slice_index l (i * 2 + 1))
+        → next ≡ (s + (high % 16 * 16 + low % 16)) % 256 → greater ≡ max high low → larger ≡ max largest greater → AddingPairs l 0 n next larger (i + 1)
+    sum_more high low next greater larger long k p q e g f =
         let z : 0 + i * 2 ≡ i * 2 = omega arith in
-        adding_more l 0 n s largest i h high low next larger (omega arith) k (rw z p) (rw z q) e f
+        adding_more l 0 n s largest i h high low next greater larger (omega arith) k (rw z p) (rw z q) e g f
 
     module _ (even : length l % 2 ≡ 0) where
-      pub sum_failed : 16 ≤ largest → 256 ≡ digits_sum l
+      pub sum_failed : 16 ≤ largest → None ≡ digits_sum l
       unfolding digits_sum
       sum_failed k = rw (eq-eqb (length l % 2) 0 even, h.bad k)
 
-      pub sum_all : n ≡ length l / 2 → n ≤ i → largest < 16 → s ≡ digits_sum l
+      pub sum_all : n ≡ length l / 2 → n ≤ i → largest < 16 → Some s ≡ digits_sum l
       unfolding digits_sum
       sum_all m k y =
           let p = h.good y in
           let d : all_digits l ≡ true = p.digits ∙ all_digits_end l (0 + i * 2) (omega (arith, h.within)) in
-          rw (eq-eqb (length l % 2) 0 even, d) (omega (arith, p.sum, bytes_total_end l (0 + i * 2) (omega (arith, h.within)), h.small))
+          let sum : s ≡ total (bytes_of l) % 256 = omega (arith, p.sum, bytes_total_end l (0 + i * 2) (omega (arith, h.within)), h.small) in
+          rw (eq-eqb (length l % 2) 0 even, d) (ap Some sum)

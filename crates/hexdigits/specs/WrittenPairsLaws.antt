@@ -1,5 +1,5 @@
 -- Pairs of characters written as bytes: whether they are digits, what the bytes add up to, and the buffer that they are written into.
-use Rattle.std.specs.Prelude.{◌≡◌, ℕ, zero, suc, ◌+◌, ◌-◌, ◌*◌, ◌%◌, ◌<◌, ◌≤◌, max, false, List, length, take, drop, slice_index, slice_set, refl}
+use Rattle.std.specs.Prelude.{◌≡◌, ℕ, zero, suc, ◌+◌, ◌-◌, ◌*◌, ◌%◌, ◌<◌, ◌≤◌, max, false, List, length, take, drop, slice_index, slice_set, refl, Option, Some, None}
 use Rattle.std.proofs.Common.{◌∙◌, append_assoc, arith, add-one, length-set, drop-drop, take-add}
 use Rattle.std.proofs.Math.Seq.{paste, paste-zero, paste-suc}
 use Rattle.std.proofs.lemmas.List.Edits.{take-paste, drop-paste}
@@ -30,26 +30,17 @@ paste_then d to bytes n m h k =
       append_assoc (take to d) (take n bytes) (take m (drop n bytes)),
     )
 
--- ---- their sum r modulo 256, or 256 where one has a character that is no digit
+-- ---- their sum modulo 256 and their bytes in the image, or nothing where a character is no digit
 
-pub record SumOfPairs (l : List ℕ) (from n r : ℕ) : Type 0 where
-  pub good : r < 256 → PairsAddUp l from n r
-  pub bad : 256 ≤ r → all_digits (drop from l) ≡ false
+-- s is the sum, and the image d has the bytes in d'
+pub record SumAndBytes (l : List ℕ) (from n : ℕ) (d d' : List ℕ) (to s : ℕ) : Type 0 where
+  pub small : s < 256
+  pub adds : PairsAddUp l from n s
+  pub wrote : d' ≡ paste d to (bytes_of (drop from l)) n
 
-pub sum_of_no_digits : (l : List ℕ) (from n : ℕ) → all_digits (drop from l) ≡ false → SumOfPairs l from n 256
-sum_of_no_digits l from n e = record { good = λ h. absurd (omega arith); bad = λ h. e }
-
-pub sum_of_digits : (l : List ℕ) (from n r : ℕ) → r < 256 → PairsAddUp l from n r → SumOfPairs l from n r
-sum_of_digits l from n r h p = record { good = λ k. p; bad = λ k. absurd (omega arith) }
-
--- ---- the same, with their bytes in the image
-
-pub record PairsWritten (l : List ℕ) (from n : ℕ) (d d' : List ℕ) (to r : ℕ) : Type 0 where
-  pub sum : SumOfPairs l from n r
-  pub wrote : r < 256 → d' ≡ paste d to (bytes_of (drop from l)) n
-
-written_no_digits : (l : List ℕ) (from n : ℕ) (d d' : List ℕ) (to : ℕ) → all_digits (drop from l) ≡ false → PairsWritten l from n d d' to 256
-written_no_digits l from n d d' to e = record { sum = sum_of_no_digits l from n e; wrote = λ h. absurd (omega arith) }
+abbrev pub PairsWritten : (l : List ℕ) (from n : ℕ) (d d' : List ℕ) (to : ℕ) → Option ℕ → Type 0
+PairsWritten l from n d d' to (Some s) = SumAndBytes l from n d d' to s
+PairsWritten l from n d d' to None = all_digits (drop from l) ≡ false
 
 -- after i of them. The loop over blocks, which stops where one has no digits, says that the largest digit is 0
 pub record WritingPairs (l : List ℕ) (from n : ℕ) (d d' : List ℕ) (to s largest i : ℕ) : Type 0 where
@@ -61,13 +52,13 @@ pub writing_first : (l : List ℕ) (from n : ℕ) (d : List ℕ) (to : ℕ) → 
 writing_first l from n d to = record { adding = adding_first l from n; wrote = λ h. paste-zero d to (bytes_of (drop from l)); kept = refl }
 
 module _ (l : List ℕ) (from n : ℕ) (d d' : List ℕ) (to s largest i : ℕ) (h : WritingPairs l from n d d' to s largest i) where
-  pub writing_more : (high low next larger : ℕ) → from + n * 2 ≤ length l → to + n ≤ length d → i < n
+  pub writing_more : (high low next greater larger : ℕ) → from + n * 2 ≤ length l → to + n ≤ length d → i < n
       → high ≡ digit (slice_index l (from + i * 2)) → low ≡ digit (slice_index l (from + i * 2 + 1))
-      → next ≡ (s + (high % 16 * 16 + low % 16)) % 256 → larger ≡ max largest (max high low)
+      → next ≡ (s + (high % 16 * 16 + low % 16)) % 256 → greater ≡ max high low → larger ≡ max largest greater
       → WritingPairs l from n d (slice_set d' (to + i) (high % 16 * 16 + low % 16)) to next larger (i + 1)
-  writing_more high low next larger long room k p q e f =
+  writing_more high low next greater larger long room k p q e g f =
       record {
-        adding = adding_more l from n s largest i h.adding high low next larger long k p q e f;
+        adding = adding_more l from n s largest i h.adding high low next greater larger long k p q e g f;
         wrote = λ z.
             rw (
               h.wrote (omega arith),
@@ -79,37 +70,38 @@ module _ (l : List ℕ) (from n : ℕ) (d d' : List ℕ) (to s largest i : ℕ) 
         kept = simp length-set h.kept;
       }
 
-  pub writing_failed : 16 ≤ largest → PairsWritten l from n d d' to 256
-  writing_failed k = written_no_digits l from n d d' to (h.adding.bad k)
+  pub writing_failed : 16 ≤ largest → PairsWritten l from n d d' to None
+  writing_failed k = h.adding.bad k
 
-  pub writing_end : n ≤ i → largest < 16 → PairsWritten l from n d d' to s
+  pub writing_end : n ≤ i → largest < 16 → PairsWritten l from n d d' to (Some s)
   writing_end k y =
       let e : i ≡ n = omega (arith, h.adding.within) in
-      record { sum = sum_of_digits l from n s h.adding.small (rw e at (h.adding.good y)); wrote = λ z. rw e at (h.wrote y) }
+      record { small = h.adding.small; adds = rw e at (h.adding.good y); wrote = rw e at (h.wrote y) }
 
 -- m more at once
 module _ (l : List ℕ) (from n : ℕ) (d d' : List ℕ) (to s largest i : ℕ) (h : WritingPairs l from n d d' to s largest i) (good : largest < 16)
-    (m : ℕ) (d'' : List ℕ) (r : ℕ) (p : PairsWritten l (from + i * 2) m d' d'' (to + i) r) where
-  pub writing_block_failed : 256 ≤ r → PairsWritten l from n d d'' to 256
-  writing_block_failed k = written_no_digits l from n d d'' to ((h.adding.good good).digits ∙ p.sum.bad k)
+    (m : ℕ) (d'' : List ℕ) where
+  pub writing_block_failed : PairsWritten l (from + i * 2) m d' d'' (to + i) None → PairsWritten l from n d d'' to None
+  writing_block_failed e = (h.adding.good good).digits ∙ e
 
-  module _ (same_length : length d'' ≡ length d') (long : from + n * 2 ≤ length l) (room : to + n ≤ length d) (small : r < 256) where
+  module _ (r : ℕ) (p : PairsWritten l (from + i * 2) m d' d'' (to + i) (Some r))
+      (same_length : length d'' ≡ length d') (long : from + n * 2 ≤ length l) (room : to + n ≤ length d) where
     pub writing_block : m ≤ n - i → WritingPairs l from n d d'' to ((s + r) % 256) largest (i + m)
     writing_block k =
         record {
           adding = record {
             within = omega (arith, h.adding.within);
             small = omega arith;
-            good = λ z. add_up_then l from i m s r (h.adding.good good) (p.sum.good small);
+            good = λ z. add_up_then l from i m s r (h.adding.good good) p.adds;
             bad = h.adding.bad;
           };
           wrote = λ z.
-              rw (p.wrote small, h.wrote good, bytes_of_drop l from i (omega (arith, h.adding.within)))
+              rw (p.wrote, h.wrote good, bytes_of_drop l from i (omega (arith, h.adding.within)))
               (paste_then d to (bytes_of (drop from l)) i m (omega arith) (length_bytes_of l from i (omega (arith, h.adding.within))));
           kept = same_length ∙ h.kept;
         }
 
     -- the last of them
-    pub writing_rest : m ≡ n - i → PairsWritten l from n d d'' to ((s + r) % 256)
+    pub writing_rest : m ≡ n - i → PairsWritten l from n d d'' to (Some ((s + r) % 256))
     writing_rest k =
         writing_end l from n d d'' to ((s + r) % 256) largest (i + m) (writing_block (omega arith)) (omega (arith, h.adding.within)) good

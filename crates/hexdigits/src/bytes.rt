@@ -2,37 +2,41 @@
 ghost use Rattle.std.specs.Prelude.{◌≡◌, ◌+◌, ◌*◌, ◌≤◌, length, take, drop};
 ghost use Rattle.hexdigits.specs.Digits.{PutsBytes};
 ghost use Rattle.hexdigits.specs.WrittenPairsLaws.{PairsWritten};
-ghost use Rattle.hexdigits.specs.BytesLaws.{PutsNone};
+ghost use Rattle.hexdigits.specs.BytesLaws.{PutsWhereRoom};
 
-use crate::digits::{digit, greatest};
+use crate::digits::digit;
 
 // bytes at a time
 const BLOCK: usize = 16;
 
 const BLOCK_CHARACTERS: usize = BLOCK * 2;
 
-// Writes the bytes that `count` pairs from character `from` on spell into the buffer at `to`. Their sum modulo 256, or 256
-// where a character is no digit. The digits are validated after the loop, so that it vectorises.
-fn put_pairs(characters: &[u8], from: usize, count: usize, buffer: &mut [u8], to: usize) -> usize
+// Writes the bytes that `count` pairs from character `from` on spell into the buffer at `to`. Their sum modulo 256, unless
+// a character is no digit. The digits are validated after the loop, so that it vectorises.
+fn put_pairs(
+    characters: &[u8],
+    from: usize,
+    count: usize,
+    buffer: &mut [u8],
+    to: usize,
+) -> Option<u8>
     requires { (from + count * 2 ≤ length characters.now) × (to + count ≤ length buffer.old) }
     ensures { PairsWritten characters.now from count buffer.old buffer.new to result }
 {
     let mut sum: u8 = 0;
     let mut largest: u8 = 0;
-    let mut i: usize = 0;
-    while i < count {
+    for i in 0..count {
         let high = digit(characters[from + i * 2]);
         let low = digit(characters[from + i * 2 + 1]);
         let byte = high % 16 * 16 + low % 16;
         buffer[to + i] = byte;
-        sum = std::num::wrapping_add_u8(sum, byte);
-        largest = greatest(largest, high, low);
-        i += 1;
+        sum = sum.wrapping_add(byte);
+        largest = largest.max(high.max(low));
     }
     if 16 <= largest {
-        return 256;
+        return None;
     }
-    sum as usize
+    Some(sum)
 }
 
 // A block's characters, copied: so the compiler knows that the buffer does not alias them.
@@ -41,11 +45,7 @@ fn block_at(characters: &[u8], from: usize) -> [u8; BLOCK_CHARACTERS]
     ensures { result ≡ take 32 (drop from characters.now) }
 {
     let mut block = [0u8; BLOCK_CHARACTERS];
-    let mut i: usize = 0;
-    while i < BLOCK_CHARACTERS {
-        block[i] = characters[from + i];
-        i += 1;
-    }
+    block.copy_from_slice(&characters[from..from + BLOCK_CHARACTERS]);
     block
 }
 
@@ -56,53 +56,48 @@ fn put_in_blocks(
     count: usize,
     buffer: &mut [u8],
     to: usize,
-) -> usize
+) -> Option<u8>
     requires { (from + count * 2 ≤ length characters.now) × (to + count ≤ length buffer.old) }
     ensures { PairsWritten characters.now from count buffer.old buffer.new to result }
 {
-    let mut sum: usize = 0;
-    let mut i: usize = 0;
-    while BLOCK <= count - i {
-        let block = block_at(characters, from + i * 2);
-        let more = put_pairs(&block, 0, BLOCK, buffer, to + i);
-        if 256 <= more {
-            return 256;
-        }
-        sum = (sum + more) % 256;
-        i += BLOCK;
+    let mut sum: u8 = 0;
+    let blocks = count / BLOCK;
+    for i in 0..blocks {
+        let block = block_at(characters, from + i * BLOCK_CHARACTERS);
+        let more = put_pairs(&block, 0, BLOCK, buffer, to + i * BLOCK)?;
+        sum = sum.wrapping_add(more);
     }
-    let rest = put_pairs(characters, from + i * 2, count - i, buffer, to + i);
-    if 256 <= rest {
-        return 256;
-    }
-    (sum + rest) % 256
+    let put = blocks * BLOCK;
+    let rest = put_pairs(characters, from + put * 2, count - put, buffer, to + put)?;
+    Some(sum.wrapping_add(rest))
 }
 
-fn put_none(buffer: &mut [u8]) -> usize
-    ensures { PutsNone buffer.old result buffer.new }
-{
-    numbers::slices::clear_from(buffer, 0);
-    256
-}
-
-// Writes the bytes that pairs of digits spell into the buffer at `to`, and gives their sum modulo 256. Where the characters are no
-// such pairs, or the bytes have no room, it gives 256, and the buffer is all zeros.
-pub fn put_bytes(characters: &[u8], buffer: &mut [u8], to: usize) -> usize
-    ensures { PutsBytes characters.now to buffer.old result buffer.new }
+// Writes the bytes that pairs of digits spell into the buffer at `to`, where the characters are such pairs and the bytes have room.
+#[tactic(auto, using(crate::specs::BytesLaws::puts_odd, crate::specs::BytesLaws::puts_outside, crate::specs::BytesLaws::puts_no_room, crate::specs::BytesLaws::puts_in_room))]
+fn put_where_room(characters: &[u8], buffer: &mut [u8], to: usize) -> Option<u8>
+    ensures { PutsWhereRoom characters.now to buffer.old result buffer.new }
 {
     if characters.len() % 2 != 0 {
-        return put_none(buffer);
+        return None;
     }
     let count = characters.len() / 2;
     if buffer.len() < to {
-        return put_none(buffer);
+        return None;
     }
     if buffer.len() - to < count {
-        return put_none(buffer);
+        return None;
     }
-    let sum = put_in_blocks(characters, 0, count, buffer, to);
-    if 256 <= sum {
-        return put_none(buffer);
+    put_in_blocks(characters, 0, count, buffer, to)
+}
+
+// Writes the bytes that pairs of digits spell into the buffer at `to`, and gives their sum modulo 256. Where the characters are no
+// such pairs, or the bytes have no room, it gives None, and the buffer is all zeros.
+pub fn put_bytes(characters: &[u8], buffer: &mut [u8], to: usize) -> Option<u8>
+    ensures { PutsBytes characters.now to buffer.old result buffer.new }
+{
+    let sum = put_where_room(characters, buffer, to);
+    if sum.is_none() {
+        numbers::slices::clear_from(buffer, 0);
     }
     sum
 }

@@ -12,7 +12,7 @@ use Rattle.laws.specs.Cases.{decide}
 use Rattle.refusals.specs.Refusals.{result}
 use Rattle.hextext.specs.Record.{digit, bytes_of, record_bytes, count_of, data_of, formed, line_of, placed, judge}
 use Rattle.hextext.proofs.RecordLaws.{formed_colon, formed_length, formed_long}
-use Rattle.hextext.specs.Text.{bare, after, reading}
+use Rattle.hextext.specs.Text.{bare, reading}
 use Rattle.hexformat.specs.Format.{GoodText}
 use Rattle.hexformat.specs.Damage.{SameDigit, SpareReturn}
 use Rattle.hexformat.specs.SpelledLaws.{digit_of}

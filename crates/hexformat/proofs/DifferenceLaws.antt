@@ -1,5 +1,5 @@
 -- Lines that are read, and two texts that are read, up to where they differ.
-use Rattle.std.specs.Prelude.{◌≡◌, false, ℕ, ◌+◌, ◌%◌, ◌<◌}
+use Rattle.std.specs.Prelude.{◌≡◌, false, ℕ, ◌+◌, ◌%◌, ◌<◌, Err, Ok}
 use Rattle.std.proofs.Math.Path.{refl}
 use Rattle.std.proofs.Math.Bool.{true}
 use mathlib.Core.List.{List, [], ◌∷◌, ◌++◌, append_assoc}
@@ -14,8 +14,8 @@ use Rattle.refusals.specs.Refusals.{Outcome, result}
 use Rattle.hextext.specs.Record.{digit, record_bytes, data_of, formed, summed, line_of, placed, judge}
 use Rattle.hextext.proofs.RecordLaws.{digit_low, digit_between, all_digits_at, formed_colon, formed_digits, formed_length}
 use Rattle.hextext.specs.Text.{bare, after, reading}
-use Rattle.hextext.specs.declared.Record.{Record}
-use Rattle.hextext.specs.declared.Record.TheVariants.{Data, End, Fault}
+use Rattle.hextext.specs.Answers.{LineRecord}
+use Rattle.hextext.specs.declared.Record.TheVariants.{Data, End}
 use Rattle.hexformat.specs.Format.{GoodText}
 use Rattle.hexformat.specs.BareLaws.{bare_return, bare_on, bare_last}
 use Rattle.hextext.proofs.TextLaws.{ended}
@@ -104,16 +104,16 @@ module _ (room line : ℕ) (image : List ℕ) where
 
   -- where text follows, it is data
   pub reads_on : (l text y : List ℕ) → 0 < length text → ended room line image l text ≡ result y
-      → (n : ℕ) × (judge room (length image) (bare l) ≡ Data n) × (reading room (line + 1) (image ++ data_of (record_bytes (bare l))) [] text ≡ result y)
+      → (n : ℕ) × (judge room (length image) (bare l) ≡ Ok (Data n)) × (reading room (line + 1) (image ++ data_of (record_bytes (bare l))) [] text ≡ result y)
   unfolding after
   reads_on l text y h e = on (judge room (length image) (bare l)) text h e
     where
-      on : {next : Outcome} (j : Record) (text : List ℕ) → 0 < length text → after j line image text next ≡ result y
-          → (n : ℕ) × (j ≡ Data n) × (next ≡ result y)
-      on (Data n) text h e = (n, refl, e)
-      on End [] h e = absurd (omega arith)
-      on End (c ∷ text) h e = refused_not e
-      on (Fault n) text h e = refused_not e
+      on : {next : Outcome} (j : LineRecord) (text : List ℕ) → 0 < length text → after j line image text next ≡ result y
+          → (n : ℕ) × (j ≡ Ok (Data n)) × (next ≡ result y)
+      on (Ok (Data n)) text h e = (n, refl, e)
+      on (Ok End) [] h e = absurd (omega arith)
+      on (Ok End) (c ∷ text) h e = refused_not e
+      on (Err n) text h e = refused_not e
 
 -- ---- two texts that are read, up to where they differ
 

@@ -1,12 +1,11 @@
 -- Worked examples: document 01's bytes 51 01, each way to be refused, and for each theorem with hypotheses a case that meets them.
-use Rattle.std.specs.Prelude.{◌≡◌, refl, true, ◌⊎◌, List, [], ◌∷◌, ◌++◌, ℕ, zero, suc, ◌*◌, ◌≤◌, length, replicate}
+use Rattle.std.specs.Prelude.{◌≡◌, refl, true, ◌⊎◌, List, [], ◌∷◌, ◌++◌, ℕ, zero, suc, ◌*◌, ◌≤◌, length, replicate, Ok}
 use Rattle.std.proofs.Common.{◌∙◌, arith}
 use Rattle.laws.specs.Bytes.{Bytes}
 use Rattle.laws.specs.Cases.{never}
 use Rattle.laws.specs.Characters.{characters}
 use Rattle.laws.specs.Sums.{total}
-use Rattle.refusals.specs.declared.Filled.{Filled}
-use Rattle.refusals.specs.declared.Filled.TheVariants.{Length}
+use Rattle.refusals.specs.Answers.{Filled}
 use Rattle.refusals.specs.Refusals.{result, refused, refusal, Fills}
 use Rattle.hextext.specs.Record.{digit, all_digits, bytes_of, formed}
 use Rattle.hextext.specs.Text.{bare, read_text}
@@ -206,7 +205,7 @@ is_written_met = is_written 28 image (omega arith) (omega arith)
 
 -- written into 30 bytes, and read into 3
 there_and_back_met : (answer : Filled) (buffer : List ℕ) → Fills (read_text 3 text) (7 ∷ 7 ∷ 7 ∷ []) answer buffer
-    → (answer ≡ Length 2) × (buffer ≡ 0x51 ∷ 0x01 ∷ 0 ∷ [])
+    → (answer ≡ Ok 2) × (buffer ≡ 0x51 ∷ 0x01 ∷ 0 ∷ [])
 unfolding text_length
 there_and_back_met answer buffer reads =
     let e : write_image 30 image ≡ result text = is_written 30 image (omega arith) (omega arith) ∙ rw writes in

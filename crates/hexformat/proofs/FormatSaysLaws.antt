@@ -1,5 +1,5 @@
 -- What the reader answers is what the format says of the text, both ways.
-use Rattle.std.specs.Prelude.{◌≡◌, true, false, ℕ, suc, ◌+◌, ◌≤◌, eqb}
+use Rattle.std.specs.Prelude.{◌≡◌, true, false, ℕ, suc, ◌+◌, ◌≤◌, eqb, Err, Ok}
 use Rattle.std.proofs.Math.Path.{refl}
 use Rattle.std.proofs.Common.{◌∙◌, eqb-true, ne_eqb, length-append}
 use mathlib.Core.List.{List, [], ◌∷◌, ◌++◌, append-nil, append_assoc}
@@ -10,8 +10,8 @@ use Rattle.laws.specs.Cases.{decide}
 use Rattle.refusals.specs.Refusals.{Outcome, result, refused, refusal}
 use Rattle.hextext.specs.Record.{record_bytes, data_of}
 use Rattle.hextext.specs.Text.{bare, after, reading}
-use Rattle.hextext.specs.declared.Record.{Record}
-use Rattle.hextext.specs.declared.Record.TheVariants.{Data, End, Fault}
+use Rattle.hextext.specs.Answers.{LineRecord}
+use Rattle.hextext.specs.declared.Record.TheVariants.{Data, End}
 use Rattle.hexformat.specs.Format.{Fields, Form, Balanced, IsData, IsEnd, DataLines, none, next, GoodText}
 use Rattle.hexformat.specs.Faults.{NoLineFeed, WholeLine, Breaks, no_form, not_balanced, neither, no_room, Refuses, stops, breaks, goes_on}
 use Rattle.hexformat.specs.SpelledLaws.{spelled_small}
@@ -28,7 +28,7 @@ FormatSays room text (refused r) = Refuses room text r.number r.detail
 -- ---- from the reader to the format
 
 module _ {room count : ℕ} {image before : List ℕ} (lines : DataLines count image before) (fits : length image ≤ room) where
-  step : (passed text taken : List ℕ) (answer : Outcome) {j : Record} → NoLineFeed passed → Judged room image (passed ++ 10 ∷ []) taken j
+  step : (passed text taken : List ℕ) (answer : Outcome) {j : LineRecord} → NoLineFeed passed → Judged room image (passed ++ 10 ∷ []) taken j
       → (DataLines (count + 1) (image ++ taken) (before ++ (passed ++ 10 ∷ [])) → length (image ++ taken) ≤ room
       → FormatSays room (before ++ (passed ++ 10 ∷ []) ++ text) answer)
       → FormatSays room (before ++ (passed ++ 10 ∷ []) ++ text) (after j (count + 1) image text answer)
@@ -92,11 +92,11 @@ module _ (room line : ℕ) (image text : List ℕ) {l : List ℕ} where
     unfolding after
     read_data d h =
         let typed-as = judge_balanced r f.spelled room (length image) z in
-        reading_form room line image text f (Data (length r.contents)) (typed-as ∙ typed_data d room h)
+        reading_form room line image text f (Ok (Data (length r.contents))) (typed-as ∙ typed_data d room h)
 
     pub read_end : IsEnd r
-        → reading room line image [] (l ++ text) ≡ after End line image text (reading room (line + 1) (image ++ r.contents) [] text)
-    read_end d = reading_form room line image text f End (judge_balanced r f.spelled room (length image) z ∙ typed_end d room (length image))
+        → reading room line image [] (l ++ text) ≡ after (Ok End) line image text (reading room (line + 1) (image ++ r.contents) [] text)
+    read_end d = reading_form room line image text f (Ok End) (judge_balanced r f.spelled room (length image) z ∙ typed_end d room (length image))
 
   -- a line that breaks a rule is refused by its number
   read_breaks : {n : ℕ} → WholeLine l → Breaks room image l n → reading room line image [] (l ++ text) ≡ refused (refusal n line)
@@ -108,11 +108,11 @@ module _ (room line : ℕ) (image text : List ℕ) {l : List ℕ} where
         reading_line room line image [] v.inside text v.no_line_feed,
         judge_no_form room image v.inside (λ r f. w r (rw v.is f)),
       )
-  read_breaks v (not_balanced {fields = r} f w) = reading_form room line image text f (Fault 2) (judge_unbalanced r f.spelled room (length image) w)
+  read_breaks v (not_balanced {fields = r} f w) = reading_form room line image text f (Err 2) (judge_unbalanced r f.spelled room (length image) w)
   read_breaks v (neither {fields = r} f z d e) =
-      reading_form room line image text f (Fault 3) (judge_balanced r f.spelled room (length image) z ∙ typed_other (count_small f) d e room)
+      reading_form room line image text f (Err 3) (judge_balanced r f.spelled room (length image) z ∙ typed_other (count_small f) d e room)
   read_breaks v (no_room {fields = r} f z d h) =
-      reading_form room line image text f (Fault 4) (judge_balanced r f.spelled room (length image) z ∙ typed_full d room h)
+      reading_form room line image text f (Err 4) (judge_balanced r f.spelled room (length image) z ∙ typed_full d room h)
 
 pub read_stops : (room line : ℕ) (image passed text : List ℕ) → NoLineFeed text → reading room line image passed text ≡ refused (refusal 1 line)
 unfolding reading

@@ -1,5 +1,5 @@
 -- A line judged, both ways: what the judgement of a record is, and what record a judgement tells of.
-use Rattle.std.specs.Prelude.{◌≡◌, Bool, true, false, cond, ◌&&◌, List, [], ◌∷◌, ◌++◌, ℕ, suc, ◌+◌, ◌-◌, ◌*◌, ◌%◌, ◌/◌, ◌≤◌, ◌<◌, ltb, leb, take, get_or}
+use Rattle.std.specs.Prelude.{◌≡◌, Bool, true, false, cond, ◌&&◌, List, [], ◌∷◌, ◌++◌, ℕ, suc, ◌+◌, ◌-◌, ◌*◌, ◌%◌, ◌/◌, ◌≤◌, ◌<◌, ltb, leb, take, get_or, Err, Ok}
 use Rattle.std.proofs.Common.{sym, ◌∙◌, append-nil, append_assoc, arith, length-append, length-take-le}
 use Rattle.std.proofs.Math.Path.{ap}
 use borrow.Author.Tests.{eq-eqb, lt-ltb, le-leb, lt-leb, eqb-true, eqb-false, ltb-true}
@@ -12,8 +12,8 @@ use Rattle.laws.specs.Sums.{total}
 use Rattle.hextext.specs.Record.{bytes_of, record_bytes, count_of, data_of, formed, typed, judge}
 use Rattle.hextext.proofs.RecordLaws.{formed_long, formed_colon, formed_digits, formed_length, judge_unformed}
 use Rattle.hextext.specs.Text.{bare}
-use Rattle.hextext.specs.declared.Record.{Record}
-use Rattle.hextext.specs.declared.Record.TheVariants.{Data, End, Fault}
+use Rattle.hextext.specs.Answers.{LineRecord}
+use Rattle.hextext.specs.declared.Record.TheVariants.{Data, End}
 use Rattle.hexformat.specs.Format.{Spelled, LineEnd, lf, crlf, Fields, bytes, Form, Balanced, IsData, IsEnd}
 use Rattle.hexformat.specs.Faults.{Breaks, no_form, not_balanced, neither, no_room}
 use Rattle.hextext.proofs.WithoutLaws.{bare_without}
@@ -23,21 +23,21 @@ use Rattle.hexformat.specs.ReadingLaws.{data_bytes, formed_spelled, colon_withou
 
 -- ---- type, count, address and room
 
-abbrev judged_fields : (room at : ℕ) → Fields → Record
+abbrev judged_fields : (room at : ℕ) → Fields → LineRecord
 judged_fields room at r = typed room at (length r.contents) r.address r.type
 
 module _ {at : ℕ} {r : Fields} (d : IsData at r) (room : ℕ) where
-  pub typed_data : at + length r.contents ≤ room → judged_fields room at r ≡ Data (length r.contents)
+  pub typed_data : at + length r.contents ≤ room → judged_fields room at r ≡ Ok (Data (length r.contents))
   unfolding typed
   typed_data h =
       rw (d.type_00, lt-ltb 0 (length r.contents) d.some, eq-eqb r.address at d.starts, le-leb (at + length r.contents) room h)
 
-  pub typed_full : room < at + length r.contents → judged_fields room at r ≡ Fault 4
+  pub typed_full : room < at + length r.contents → judged_fields room at r ≡ Err 4
   unfolding typed
   typed_full h =
       rw (d.type_00, lt-ltb 0 (length r.contents) d.some, eq-eqb r.address at d.starts, lt-leb (at + length r.contents) room h)
 
-pub typed_end : {r : Fields} → IsEnd r → (room at : ℕ) → judged_fields room at r ≡ End
+pub typed_end : {r : Fields} → IsEnd r → (room at : ℕ) → judged_fields room at r ≡ Ok End
 unfolding typed
 typed_end d room at = simp (d.type_01, d.count_0, d.address_0)
 
@@ -45,12 +45,12 @@ typed_end d room at = simp (d.type_01, d.count_0, d.address_0)
 data Kind (at : ℕ) (r : Fields) : Type 0 where
   is_data : IsData at r → Kind at r
   is_end : IsEnd r → Kind at r
-  is_neither : (IsData at r → ⊥) → (IsEnd r → ⊥) → ((room : ℕ) → judged_fields room at r ≡ Fault 3) → Kind at r
+  is_neither : (IsData at r → ⊥) → (IsEnd r → ⊥) → ((room : ℕ) → judged_fields room at r ≡ Err 3) → Kind at r
 
 all_three : (a b c : Bool) → (a && (b && c)) ≡ true → (a ≡ true) × (b ≡ true) × (c ≡ true)
 all_three a b c e = let f = both_right a (b && c) e in (both_left a (b && c) e, both_left b c f, both_right b c f)
 
-other_fault : (a b c : Bool) (x : Record) → (a && b) ≡ false → c ≡ false → cond a (cond b x (Fault 3)) (cond c End (Fault 3)) ≡ Fault 3
+other_fault : (a b c : Bool) (x : LineRecord) → (a && b) ≡ false → c ≡ false → cond a (cond b x (Err 3)) (cond c (Ok End) (Err 3)) ≡ Err 3
 other_fault true b c x p q = rw p
 other_fault false b c x p q = rw q
 
@@ -72,13 +72,13 @@ kind_of at r small =
     is_neither
     (λ (d : IsData at r). never (sym p ∙ rw (d.type_00, lt-ltb 0 n d.some, eq-eqb r.address at d.starts)))
     (λ (d : IsEnd r). never (sym q ∙ rw (d.type_01, d.count_0, d.address_0)))
-    (λ room. other_fault (eqb r.type 0) data-test end_test (cond (leb (at + n) room) (Data n) (Fault 4)) p q)))
+    (λ room. other_fault (eqb r.type 0) data-test end_test (cond (leb (at + n) room) (Ok (Data n)) (Err 4)) p q)))
 
 pub typed_other : {at : ℕ} {r : Fields} → length r.contents ≤ 255 → (IsData at r → ⊥) → (IsEnd r → ⊥) → (room : ℕ)
-    → judged_fields room at r ≡ Fault 3
+    → judged_fields room at r ≡ Err 3
 typed_other {at} {r} small v w room = of (kind_of at r small)
   where
-    of : Kind at r → judged_fields room at r ≡ Fault 3
+    of : Kind at r → judged_fields room at r ≡ Err 3
     of (is_data d) = absurd (v d)
     of (is_end d) = absurd (w d)
     of (is_neither p q e) = e room
@@ -178,11 +178,11 @@ form_formed l r f = bare_formed f.digits f.spelled f.ends f.is
 -- ---- a line judged
 
 -- what the judgement of a line tells: with the data that the reader takes from it
-pub data Judged (room : ℕ) (image line taken : List ℕ) : Record → Type 0 where
+pub data Judged (room : ℕ) (image line taken : List ℕ) : LineRecord → Type 0 where
   more : {r : Fields} {n : ℕ} → Form r line → Balanced r → IsData (length image) r → taken ≡ r.contents → length image + length r.contents ≤ room
-      → Judged room image line taken (Data n)
-  end : {r : Fields} → Form r line → Balanced r → IsEnd r → Judged room image line taken End
-  fault : {n : ℕ} → Breaks room image line n → Judged room image line taken (Fault n)
+      → Judged room image line taken (Ok (Data n))
+  end : {r : Fields} → Form r line → Balanced r → IsEnd r → Judged room image line taken (Ok End)
+  fault : {n : ℕ} → Breaks room image line n → Judged room image line taken (Err n)
 
 module _ (room : ℕ) (image l : List ℕ) where
   abbrev at : ℕ
@@ -191,7 +191,7 @@ module _ (room : ℕ) (image l : List ℕ) where
   abbrev taken : List ℕ
   taken = data_of (record_bytes (bare l))
 
-  abbrev Tells : Record → Type 0
+  abbrev Tells : LineRecord → Type 0
   Tells judged = Judged room image (l ++ 10 ∷ []) taken judged
 
   balanced_judged : (r : Fields) → Form r (l ++ 10 ∷ []) → Balanced r → taken ≡ r.contents → Kind at r → Tells (judged_fields room at r)
@@ -225,7 +225,7 @@ module _ (room : ℕ) (image l : List ℕ) where
       (λ q. formed_judged (spelled_record (bare l) q))
       (λ q. rw (judge_unformed room at (bare l) q) (fault (no_form (λ r f. never (sym q ∙ form_formed l r f)))))
 
-  pub judge_no_form : ((r : Fields) → Form r (l ++ 10 ∷ []) → ⊥) → judge room at (bare l) ≡ Fault 1
+  pub judge_no_form : ((r : Fields) → Form r (l ++ 10 ∷ []) → ⊥) → judge room at (bare l) ≡ Err 1
   judge_no_form v =
       decide (formed (bare l))
       (λ q. let s = spelled_record (bare l) q in absurd (v s.fields (form_of l s)))

@@ -1,13 +1,12 @@
 -- Two good texts, of which one is the other with a line lost, doubled, or exchanged with its neighbour.
-use Rattle.std.specs.Prelude.{◌≡◌, refl, true, false, List, [], ◌∷◌, ◌++◌, ℕ, ◌+◌, ◌≤◌, ◌<◌, eqb, length}
+use Rattle.std.specs.Prelude.{◌≡◌, refl, true, false, List, [], ◌∷◌, ◌++◌, ℕ, ◌+◌, ◌≤◌, ◌<◌, eqb, length, Err}
 use Rattle.std.proofs.Common.{sym, ap, ◌∙◌, append-nil, append_assoc, arith, eqb-true, length-append}
 use Rattle.std.proofs.lemmas.Bool.{eqb-false}
 use Rattle.laws.specs.Cases.{decide}
 use Rattle.refusals.specs.Refusals.{result, refused, refusal}
 use Rattle.hextext.specs.Record.{record_bytes, data_of}
 use Rattle.hextext.specs.Text.{bare, after, reading}
-use Rattle.hextext.specs.declared.Record.{Record}
-use Rattle.hextext.specs.declared.Record.TheVariants.{Fault}
+use Rattle.hextext.specs.Answers.{LineRecord}
 use Rattle.hexformat.specs.Format.{Fields, Form, Balanced, IsData, IsEnd, GoodText}
 use Rattle.hextext.proofs.WithoutLaws.{without_more}
 use Rattle.hextext.proofs.TextLaws.{reading_line}
@@ -25,7 +24,7 @@ data LineAt (room line : ℕ) (image l text y : List ℕ) : Type 0 where
       → reading room (line + 1) (image ++ r.contents) [] text ≡ result y → LineAt room line image l text y
   is_end : {r : Fields} → Form r l → Balanced r → IsEnd r → text ≡ [] → image ≡ y → LineAt room line image l text y
 
-judged_at : (room line : ℕ) (image l text y taken : List ℕ) {j : Record} → Judged room image l taken j
+judged_at : (room line : ℕ) (image l text y taken : List ℕ) {j : LineRecord} → Judged room image l taken j
     → after j line image text (reading room (line + 1) (image ++ taken) [] text) ≡ result y → LineAt room line image l text y
 unfolding after
 judged_at room line image l text y taken (data-judged f z d t h) e = is_data f z d h (rw t at e)
@@ -46,7 +45,7 @@ elsewhere : (room line at : ℕ) (image text : List ℕ) {r : Fields} {l : List 
     → reading room line image [] (l ++ text) ≡ refused (refusal 3 line)
 unfolding after
 elsewhere room line at image text {r} f z d differ =
-    reading_form room line image text f (Fault 3)
+    reading_form room line image text f (Err 3)
     (judge_balanced r f.spelled room (length image) z
     ∙ typed_other (count_small f)
     (λ (d' : IsData (length image) r). differ (sym d'.starts ∙ d.starts))

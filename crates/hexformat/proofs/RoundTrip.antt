@@ -1,11 +1,10 @@
 -- What is written of an image is a good text of it, of the right length, and reads back the same.
-use Rattle.std.specs.Prelude.{◌≡◌, true, false, List, ◌++◌, ℕ, ◌+◌, ◌-◌, ◌*◌, ◌≤◌, ◌<◌, leb, length, take, replicate}
+use Rattle.std.specs.Prelude.{◌≡◌, true, false, List, ◌++◌, ℕ, ◌+◌, ◌-◌, ◌*◌, ◌≤◌, ◌<◌, leb, length, take, replicate, Ok}
 use Rattle.std.proofs.Common.{ap, ◌∙◌, arith, leb-true, le-leb, take_at}
 use Rattle.limits.specs.Limits.{largest_image}
 use Rattle.laws.specs.Bytes.{Bytes}
 use Rattle.laws.specs.Cases.{decide}
-use Rattle.refusals.specs.declared.Filled.{Filled}
-use Rattle.refusals.specs.declared.Filled.TheVariants.{Length}
+use Rattle.refusals.specs.Answers.{Filled}
 use Rattle.refusals.specs.Refusals.{result, Fills}
 use Rattle.hextext.specs.Text.{read_text}
 use Rattle.hextext.specs.Written.{text_of, text_length, write_image}
@@ -44,14 +43,14 @@ record TextWritten (image before after : List ℕ) (n : ℕ) : Type 0 where
   small : length image ≤ largest_image
   begins : take n after ≡ text_of image
 
-text_written : (image before after : List ℕ) (n : ℕ) → Fills (write_image (length before) image) before (Length n) after → TextWritten image before after n
+text_written : (image before after : List ℕ) (n : ℕ) → Fills (write_image (length before) image) before (Ok n) after → TextWritten image before after n
 unfolding write_image
 text_written image before after n fills =
     decide (leb (length image) largest_image)
     (λ (p : leb (length image) largest_image ≡ true).
     decide (leb (text_length (length image)) (length before))
     (λ (q : leb (text_length (length image)) (length before) ≡ true).
-    let e : Length n ≡ Length (length (text_of image)) = rw (p, q) at fills.answers in
+    let e : Ok n ≡ Ok (length (text_of image)) = rw (p, q) at fills.answers in
     let m : length (text_of image) ≡ n = cc in
     let a : after ≡ text_of image ++ replicate (length before - length (text_of image)) 0 = rw (p, q) at fills.holds in
     record {
@@ -66,10 +65,10 @@ text_written image before after n fills =
 -- where the writer answers n characters and the reader reads those into a buffer that the image fits, the answer is the image's length, and the buffer
 -- holds the image and zeros after it
 pub there_and_back : (image text text' buffer buffer' : List ℕ) (n : ℕ) (answer : Filled) → Bytes image
-    → Fills (write_image (length text) image) text (Length n) text'
+    → Fills (write_image (length text) image) text (Ok n) text'
     → Fills (read_text (length buffer) (take n text')) buffer answer buffer'
     → length image ≤ length buffer
-    → (answer ≡ Length (length image)) × (buffer' ≡ image ++ replicate (length buffer - length image) 0)
+    → (answer ≡ Ok (length image)) × (buffer' ≡ image ++ replicate (length buffer - length image) 0)
 there_and_back image text text' buffer buffer' n answer b writes reads h =
     let w = text_written image text text' n writes in
     let r : read_text (length buffer) (take n text') ≡ result image = rw w.begins (written_reads_back image b (length buffer) w.small h) in

@@ -1,5 +1,5 @@
 -- The reader at a line: how the characters of a line are gathered, and what it makes of a record.
-use Rattle.std.specs.Prelude.{◌≡◌, true, ℕ, zero, suc, ◌+◌, ◌*◌, ◌%◌, ◌/◌, ◌<◌}
+use Rattle.std.specs.Prelude.{◌≡◌, true, ℕ, zero, suc, ◌+◌, ◌*◌, ◌%◌, ◌/◌, ◌<◌, Err}
 use Rattle.std.proofs.Common.{sym, ◌∙◌, length-append}
 use Rattle.std.proofs.Math.Path.{ap}
 use mathlib.Core.List.{List, [], ◌∷◌, ◌++◌, append_assoc}
@@ -14,8 +14,7 @@ use Rattle.hextext.specs.Record.{record_bytes, data_of, formed, summed, typed, l
 use Rattle.hextext.specs.Text.{after, reading}
 use Rattle.hextext.proofs.WithoutLaws.{Without, without_append, without_one, digits_without, bare_without}
 use Rattle.hextext.proofs.TextLaws.{reading_line}
-use Rattle.hextext.specs.declared.Record.{Record}
-use Rattle.hextext.specs.declared.Record.TheVariants.{Fault}
+use Rattle.hextext.specs.Answers.{LineRecord}
 use Rattle.hexformat.specs.Format.{Spelled, LineEnd, lf, crlf, Fields, bytes, Form, Balanced}
 use Rattle.hexformat.specs.Faults.{NoLineFeed, WholeLine}
 use Rattle.hexformat.specs.BareLaws.{bare_return}
@@ -78,12 +77,12 @@ module _ (r : Fields) where
         let q : r.address / 256 * 256 + r.address % 256 ≡ r.address = omega arith in
         rw (formed_spelled, spelled_bytes s, eq-eqb (total (bytes r) % 256) 0 z, q)
 
-    pub judge_unbalanced : (room at : ℕ) → (Balanced r → ⊥) → judge room at (58 ∷ l) ≡ Fault 2
+    pub judge_unbalanced : (room at : ℕ) → (Balanced r → ⊥) → judge room at (58 ∷ l) ≡ Err 2
     unfolding judge placed line_of summed record_bytes
     judge_unbalanced room at z = rw (formed_spelled, spelled_bytes s, ne_eqb (total (bytes r) % 256) 0 z)
 
 -- the reader at a record's line, judged as `judged`
-pub reading_form : (room line : ℕ) (image text : List ℕ) {r : Fields} {l : List ℕ} (f : Form r l) (judged : Record)
+pub reading_form : (room line : ℕ) (image text : List ℕ) {r : Fields} {l : List ℕ} (f : Form r l) (judged : LineRecord)
     → judge room (length image) (58 ∷ f.digits) ≡ judged
     → reading room line image [] (l ++ text) ≡ after judged line image text (reading room (line + 1) (image ++ r.contents) [] text)
 reading_form room line image text {r} f judged e =

@@ -1,6 +1,6 @@
 -- Where lines end: a law for each way out.
-use Rattle.std.specs.Prelude.{◌≡◌, List, ℕ, ◌+◌, ◌-◌, ◌≤◌, ◌<◌, eqb, length, drop, get_or}
-use Rattle.std.proofs.Common.{sym, arith, le_of_eq, length-take-le}
+use Rattle.std.specs.Prelude.{◌≡◌, List, ℕ, ◌+◌, ◌-◌, ◌≤◌, ◌<◌, eqb, length, take, drop, get_or, Some, None}
+use Rattle.std.proofs.Common.{arith}
 use Rattle.std.proofs.Math.Bool.{and-false}
 use borrow.Author.Tests.{eq-eqb, ne_eqb}
 use Rattle.std.proofs.Math.ListN.{get_or-eq_default}
@@ -29,13 +29,13 @@ module _ (t : List ℕ) (i : ℕ) (h : NoLineFeedBefore t i) where
   before_end k = omega (arith, h.is, line_length_end t i k)
 
 module _ (l : List ℕ) where
-  pub bare_none : length l ≡ 0 → 0 ≡ length (bare l)
+  pub bare_none : length l < 1 → length l ≡ length (bare l)
   unfolding bare
-  bare_none h = rw (h, get_or-eq_default l 0 (le_of_eq h)) (sym h)
+  bare_none h = let none : length l ≤ length l - 1 = omega arith in rw (get_or-eq_default l 0 none)
 
-  pub bare_cr : (length l ≡ 0 → ⊥) → get_or l (length l - 1) 0 ≡ 13 → length l - 1 ≡ length (bare l)
+  pub bare_cr : 1 ≤ length l → get_or l (length l - 1) 0 ≡ 13 → length (take (length l - 1) l) ≡ length (bare l)
   unfolding bare
-  bare_cr h e = rw (eq-eqb (get_or l (length l - 1) 0) 13 e) (sym (length-take-le (length l - 1) l (omega arith)))
+  bare_cr h e = rw (eq-eqb (get_or l (length l - 1) 0) 13 e)
 
   pub bare_other : (get_or l (length l - 1) 0 ≡ 13 → ⊥) → length l ≡ length (bare l)
   unfolding bare
@@ -44,26 +44,26 @@ module _ (l : List ℕ) where
 -- ---- where the next line starts
 
 module _ (u : List ℕ) (e : ℕ) where
-  pub next_short : length u ≤ e → 0 ≡ next_line u e
+  pub next_short : length u ≤ e → None ≡ next_line u e
   unfolding next_line
   next_short h = rw (get_or-eq_default u 0 h)
 
-  pub next_lf : get_or u e 0 ≡ 10 → e + 1 ≡ next_line u e
+  pub next_lf : get_or u e 0 ≡ 10 → Some (e + 1) ≡ next_line u e
   unfolding next_line
   next_lf w = rw (eq-eqb (get_or u e 0) 10 w)
 
   module _ (other : get_or u e 0 ≡ 10 → ⊥) where
-    pub next_other : (get_or u e 0 ≡ 13 → ⊥) → 0 ≡ next_line u e
+    pub next_other : (get_or u e 0 ≡ 13 → ⊥) → None ≡ next_line u e
     unfolding next_line
     next_other k = rw (ne_eqb (get_or u e 0) 10 other, ne_eqb (get_or u e 0) 13 k)
 
-    pub next_cr : (get_or u (e + 1) 0 ≡ 10 → ⊥) → 0 ≡ next_line u e
+    pub next_cr : (get_or u (e + 1) 0 ≡ 10 → ⊥) → None ≡ next_line u e
     unfolding next_line
     next_cr k = rw (ne_eqb (get_or u e 0) 10 other, ne_eqb (get_or u (e + 1) 0) 10 k, and-false (eqb (get_or u e 0) 13))
 
-    pub next_cut : length u ≤ e + 1 → 0 ≡ next_line u e
+    pub next_cut : length u ≤ e + 1 → None ≡ next_line u e
     next_cut h = next_cr (λ w. omega (arith, get_or-eq_default u 0 h))
 
-    pub next_crlf : get_or u e 0 ≡ 13 → get_or u (e + 1) 0 ≡ 10 → e + 2 ≡ next_line u e
+    pub next_crlf : get_or u e 0 ≡ 13 → get_or u (e + 1) 0 ≡ 10 → Some (e + 2) ≡ next_line u e
     unfolding next_line
     next_crlf c w = rw (ne_eqb (get_or u e 0) 10 other, eq-eqb (get_or u e 0) 13 c, eq-eqb (get_or u (e + 1) 0) 10 w)

@@ -1,14 +1,14 @@
 -- A record taken: a law for each way out.
-use Rattle.std.specs.Prelude.{◌≡◌, refl, true, List, [], ◌∷◌, ℕ, zero, suc, ◌+◌, ◌-◌, ◌*◌, ◌≤◌, ◌<◌, min, ltb, length, take, drop}
+use Rattle.std.specs.Prelude.{◌≡◌, refl, true, List, [], ◌∷◌, ℕ, zero, suc, ◌+◌, ◌-◌, ◌*◌, ◌≤◌, min, ltb, length, take, drop, Err, Ok, Option, Some, None}
 use Rattle.std.proofs.Common.{sym, ◌∙◌, arith, drop-drop, take-take, Fits}
 use Rattle.std.proofs.Math.Nat.{sub-zero}
 use Rattle.std.proofs.Math.Seq.{paste}
 use Rattle.std.specs.Int.{w64}
 use Rattle.limits.specs.Limits.{largest_image}
-use Rattle.laws.specs.Cases.{split, never, both_right}
+use Rattle.laws.specs.Cases.{never, both_right}
 use Rattle.numbers.specs.Slices.{cleared_from}
-use Rattle.hextext.specs.declared.Record.{Record}
-use Rattle.hextext.specs.declared.Record.TheVariants.{Data, End, Fault}
+use Rattle.hextext.specs.Answers.{LineRecord}
+use Rattle.hextext.specs.declared.Record.TheVariants.{Data, End}
 use Rattle.hextext.specs.Record.{digit, all_digits, bytes_of, record_bytes, count_of, data_of, judge}
 use Rattle.hextext.proofs.RecordLaws.{record_bytes_head, formed_digits}
 use Rattle.hexdigits.specs.Digits.{PutsBytes}
@@ -29,31 +29,32 @@ digits_after (suc k) [] e = refl
 digits_after (suc k) (c ∷ l) e = digits_after k l (both_right (ltb (digit c) 16) (all_digits l) e)
 
 -- the data of a record that is good are put as they are
-module _ (l d : List ℕ) (at n : ℕ) (good : GoodDataRecord (min largest_image (length d)) at l n) (r : ℕ) (d' : List ℕ)
+module _ (l d : List ℕ) (at n : ℕ) (good : GoodDataRecord (min largest_image (length d)) at l n) (r : Option ℕ) (d' : List ℕ)
     (p : PutsBytes (take (n * 2) (drop 9 l)) at d r d') where
   written : PairsWritten l 9 n d d' at r
   written = puts_pairs l 9 n d d' at r (omega (arith, good.long)) (omega (arith, good.fits)) p
 
-  pub data_adds_up : r < 256
-  data_adds_up =
-      let digits : all_digits (drop 9 l) ≡ true = rw (← drop-drop 8 1 l) (digits_after 8 (drop 1 l) (formed_digits l good.good)) in
-      split 256 r (λ h. never (sym (written.sum.bad h) ∙ digits)) (λ h. h)
+  digits : all_digits (drop 9 l) ≡ true
+  digits = rw (← drop-drop 8 1 l) (digits_after 8 (drop 1 l) (formed_digits l good.good))
 
   pub data_put : d' ≡ paste d at (data_of (record_bytes l)) n
-  data_put =
-      written.wrote data_adds_up ∙ rw (data_from_nine l n good.long good.counts, take-take n n (bytes_of (drop 9 l)) (omega arith))
+  data_put = by r written
+    where
+      by : (x : Option ℕ) → PairsWritten l 9 n d d' at x → d' ≡ paste d at (data_of (record_bytes l)) n
+      by (Some s) w = w.wrote ∙ rw (data_from_nine l n good.long good.counts, take-take n n (bytes_of (drop 9 l)) (omega arith))
+      by None no-digits = never (sym no-digits ∙ digits)
 
-module _ (l d : List ℕ) (at room : ℕ) (m : room ≡ min largest_image (length d)) (judged : Record) (e : judged ≡ judge room at l) where
+module _ (l d : List ℕ) (at room : ℕ) (m : room ≡ min largest_image (length d)) (judged : LineRecord) (e : judged ≡ judge room at l) where
   in_place : judged ≡ judge (min largest_image (length d)) at l
   in_place = rw m at e
 
-  pub takes_end : judged ≡ End → TakesRecord l at d End d
-  takes_end f = record { answers = sym f ∙ in_place; holds = rw (← in_place, f) }
+  pub takes_end : judged ≡ Ok End → TakesRecord l at d judged d
+  takes_end f = record { answers = in_place; holds = rw (← in_place, f) }
 
-  pub takes_fault : (number : ℕ) (d' : List ℕ) → judged ≡ Fault number → d' ≡ cleared_from 0 d → TakesRecord l at d (Fault number) d'
-  takes_fault number d' f w = record { answers = sym f ∙ in_place; holds = rw (← in_place, f) (w ∙ rw (sub-zero (length d))) }
+  pub takes_fault : (number : ℕ) (d' : List ℕ) → judged ≡ Err number → d' ≡ cleared_from 0 d → TakesRecord l at d judged d'
+  takes_fault number d' f w = record { answers = in_place; holds = rw (← in_place, f) (w ∙ rw (sub-zero (length d))) }
 
-  module _ (n : ℕ) (f : judged ≡ Data n) where
+  module _ (n : ℕ) (f : judged ≡ Ok (Data n)) where
     good : GoodDataRecord (min largest_image (length d)) at l n
     good = good_data_record (min largest_image (length d)) at l n (sym in_place ∙ f)
 
@@ -66,7 +67,7 @@ module _ (l d : List ℕ) (at room : ℕ) (m : room ≡ min largest_image (lengt
     pub takes_long : 9 + n * 2 ≤ length l
     takes_long = omega (arith, good.long)
 
-    pub takes_data : (r : ℕ) (d' : List ℕ) → PutsBytes (take (9 + n * 2 - 9) (drop 9 l)) at d r d' → TakesRecord l at d (Data n) d'
+    pub takes_data : (r : Option ℕ) (d' : List ℕ) → PutsBytes (take (9 + n * 2 - 9) (drop 9 l)) at d r d' → TakesRecord l at d judged d'
     takes_data r d' p =
         let all : 9 + n * 2 - 9 ≡ n * 2 = omega arith in
-        record { answers = sym f ∙ in_place; holds = rw (← in_place, f) (data_put l d at n good r d' (rw all at p)) }
+        record { answers = in_place; holds = rw (← in_place, f) (data_put l d at n good r d' (rw all at p)) }

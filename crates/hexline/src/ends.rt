@@ -4,52 +4,49 @@ ghost use Rattle.hextext.specs.Text.{line_length, bare};
 ghost use Rattle.hexline.specs.Line.{next_line};
 
 // How many characters the first line of a text has: those before its LF, or all.
+#[tactic(auto, using(crate::specs::EndsLaws::before_first, crate::specs::EndsLaws::before_more, crate::specs::EndsLaws::before_lf, crate::specs::EndsLaws::before_end))]
 pub fn line_length(text: &[u8]) -> usize
     ensures { result ≡ line_length text.now }
 {
-    let mut i: usize = 0;
-    while i < text.len() {
-        if text[i] == b'\n' {
+    for (i, character) in text.iter().enumerate() {
+        if *character == b'\n' {
             return i;
         }
-        i += 1;
     }
-    i
+    text.len()
 }
 
 // How many characters a line has without the one CR that may stand before its LF.
+#[tactic(auto, using(crate::specs::EndsLaws::bare_none, crate::specs::EndsLaws::bare_cr, crate::specs::EndsLaws::bare_other))]
 pub fn bare_length(line: &[u8]) -> usize
     ensures { result ≡ length (bare line.now) }
 {
-    if line.len() == 0 {
-        return 0;
+    match line {
+        [front @ .., b'\r'] => front.len(),
+        _ => line.len(),
     }
-    let last = line.len() - 1;
-    if line[last] == b'\r' {
-        return last;
-    }
-    line.len()
 }
 
-// Where the next line starts, if a line end stands at `end`, or 0.
-pub fn next_line(text: &[u8], end: usize) -> usize
+// Where the next line starts, if a line end stands at `end`. By tests: over patterns of `text[end..]` the proof did not close.
+#[tactic(auto, using(crate::specs::EndsLaws::next_short, crate::specs::EndsLaws::next_lf, crate::specs::EndsLaws::next_other, crate::specs::EndsLaws::next_cut, crate::specs::EndsLaws::next_cr, crate::specs::EndsLaws::next_crlf))]
+pub fn next_line(text: &[u8], end: usize) -> Option<usize>
     ensures { result ≡ next_line text.now end }
 {
     if text.len() <= end {
-        return 0;
+        return None;
     }
     if text[end] == b'\n' {
-        return end + 1;
+        return Some(end + 1);
     }
     if text[end] != b'\r' {
-        return 0;
+        return None;
     }
     let last = end + 1;
     if text.len() <= last {
-        return 0;
+        return None;
     }
     if text[last] != b'\n' {
-        return 0;
+        return None;
     }
-    end + 2
+    Some(end + 2)
 }

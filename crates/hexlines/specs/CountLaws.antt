@@ -1,9 +1,9 @@
 -- The count that a line tells, and whether the line ends where its count says.
-use Rattle.std.specs.Prelude.{◌≡◌, Bool, true, false, ◌&&◌, List, ℕ, ◌+◌, ◌*◌, ◌≤◌, ◌<◌, eqb, length, take}
-use Rattle.std.proofs.Common.{sym, ◌∙◌, arith, eqb-true}
+use Rattle.std.specs.Prelude.{◌≡◌, Bool, true, false, ◌&&◌, List, ℕ, ◌+◌, ◌*◌, ◌≤◌, ◌<◌, eqb, length, take, Option, Some, None, is_some, ⊤}
+use Rattle.std.proofs.Common.{sym, ap, ◌∙◌, arith, eqb-true}
 use Rattle.std.proofs.Math.ListN.{get_or}
 use Rattle.std.proofs.Math.Seq.{length-take-le, get_or-take}
-use Rattle.laws.specs.Cases.{decide, both_left, both_right}
+use Rattle.laws.specs.Cases.{decide, never, both_left, both_right}
 use Rattle.hextext.specs.Record.{digit}
 use Rattle.hextext.proofs.RecordLaws.{byte_at}
 use Rattle.hexdigits.specs.DigitsLaws.{SpellsByte}
@@ -11,16 +11,16 @@ use Rattle.hexline.specs.Line.{next_line}
 use Rattle.hexlines.specs.LettersLaws.{When, UsualStart}
 
 pub record EndsAt (line : List ℕ) (end : ℕ) : Type 0 where
-  pub is : next_line line end ≡ length line
+  pub is : next_line line end ≡ Some (length line)
 
 pub ends_lf : (line : List ℕ) (end : ℕ) (answer : Bool) → length line ≡ end + 1 → answer ≡ eqb (get_or line end 0) 10 → When answer (EndsAt line end)
 unfolding next_line
-ends_lf line end answer size e = record { says = λ q. record { is = rw (sym e ∙ q) (sym size) } }
+ends_lf line end answer size e = record { says = λ q. record { is = rw (sym e ∙ q, size) } }
 
 pub ends_crlf : (line : List ℕ) (end : ℕ) (answer : Bool) → length line ≡ end + 2 → get_or line end 0 ≡ 13 → answer ≡ eqb (get_or line (end + 1) 0) 10
     → When answer (EndsAt line end)
 unfolding next_line
-ends_crlf line end answer size cr e = record { says = λ q. record { is = rw (cr, sym e ∙ q) (sym size) } }
+ends_crlf line end answer size cr e = record { says = λ q. record { is = rw (cr, sym e ∙ q, size) } }
 
 -- a line with a colon and a count, which ends where the count says
 pub record LineCounted (line : List ℕ) (n : ℕ) : Type 0 where
@@ -30,21 +30,22 @@ pub record LineCounted (line : List ℕ) (n : ℕ) : Type 0 where
   pub some : n ≡ 0 → ⊥
   pub ends : EndsAt line (11 + n * 2)
 
-pub record TellsCount (line : List ℕ) (n : ℕ) : Type 0 where
-  pub says : (n ≡ 0 → ⊥) → LineCounted line n
+-- where a count is told, it is the line's
+abbrev pub TellsCount : (line : List ℕ) → Option ℕ → Type 0
+TellsCount line (Some n) = LineCounted line n
+TellsCount line None = ⊤
 
 pub tells_count : (line : List ℕ) (high low : ℕ) (answer : Bool) → get_or line 0 0 ≡ 58 → high ≡ digit (get_or line 1 0) → low ≡ digit (get_or line 2 0)
-    → high < 16 → low < 16 → When answer (EndsAt line (11 + (high * 16 + low) * 2)) → answer ≡ true → TellsCount line (high * 16 + low)
+    → high < 16 → low < 16 → (high * 16 + low ≡ 0 → ⊥) → When answer (EndsAt line (11 + (high * 16 + low) * 2)) → answer ≡ true
+    → LineCounted line (high * 16 + low)
 unfolding byte_at
-tells_count line high low answer c e f h k w t =
+tells_count line high low answer c e f h k some w t =
     record {
-      says = λ some. record {
-        colon = c;
-        count = record { high = omega arith; low = omega arith; is = rw (e, f) };
-        small = omega arith;
-        some = some;
-        ends = w.says t;
-      };
+      colon = c;
+      count = record { high = omega arith; low = omega arith; is = rw (e, f) };
+      small = omega arith;
+      some = some;
+      ends = w.says t;
     }
 
 pub usual_counted : (line : List ℕ) (answer : Bool) → length line ≡ 44 → UsualStart line → answer ≡ eqb (get_or line 43 0) 10 → When answer (LineCounted line 16)
@@ -61,8 +62,8 @@ usual_counted line answer size start e =
       };
     }
 
-pub tells_usual : (line : List ℕ) (answer : Bool) → When answer (LineCounted line 16) → answer ≡ true → TellsCount line 16
-tells_usual line answer w t = record { says = λ h. w.says t }
+pub tells_usual : (line : List ℕ) (answer : Bool) → When answer (LineCounted line 16) → answer ≡ true → LineCounted line 16
+tells_usual line answer w t = w.says t
 
 -- the same without its line end
 pub record Counted (l : List ℕ) (n : ℕ) : Type 0 where
@@ -78,15 +79,15 @@ pub by_end : (line : List ℕ) (e : ℕ) → EndsAt line e → 1 ≤ length line
 unfolding next_line
 by_end line e h some P lf crlf =
     decide (eqb (get_or line e 0) 10)
-    (λ (q : eqb (get_or line e 0) 10 ≡ true). lf (sym (rw q at h.is)) (eqb-true (get_or line e 0) 10 q))
+    (λ (q : eqb (get_or line e 0) 10 ≡ true). lf (cc (rw q at h.is)) (eqb-true (get_or line e 0) 10 q))
     (λ (q : eqb (get_or line e 0) 10 ≡ false).
     decide (eqb (get_or line e 0) 13 && eqb (get_or line (e + 1) 0) 10)
     (λ (z : (eqb (get_or line e 0) 13 && eqb (get_or line (e + 1) 0) 10) ≡ true).
-    crlf (sym (rw (q, z) at h.is)) (eqb-true (get_or line e 0) 13 (both_left (eqb (get_or line e 0) 13) (eqb (get_or line (e + 1) 0) 10) z))
+    crlf (cc (rw (q, z) at h.is)) (eqb-true (get_or line e 0) 13 (both_left (eqb (get_or line e 0) 13) (eqb (get_or line (e + 1) 0) 10) z))
     (eqb-true (get_or line (e + 1) 0) 10 (both_right (eqb (get_or line e 0) 13) (eqb (get_or line (e + 1) 0) 10) z)))
     (λ (z : (eqb (get_or line e 0) 13 && eqb (get_or line (e + 1) 0) 10) ≡ false).
-    let none : 0 ≡ length line = rw (q, z) at h.is in
-    absurd (omega arith)))
+    let none : None ≡ Some (length line) = rw (q, z) at h.is in
+    never (ap is_some none)))
 
 module _ (line : List ℕ) (n : ℕ) (c : LineCounted line n) (some : 12 < length line) where
   pub counted_long : 11 + n * 2 ≤ length line

@@ -1,5 +1,5 @@
 -- A data record at the address that is due, by its characters: what it is judged as, and what the buffer holds where it turns out to be another.
-use Rattle.std.specs.Prelude.{◌≡◌, Bool, true, false, not, List, ℕ, ◌+◌, ◌-◌, ◌*◌, ◌/◌, ◌%◌, ◌≤◌, ◌<◌, min, length, take, drop, get_or}
+use Rattle.std.specs.Prelude.{◌≡◌, Bool, true, false, not, List, ℕ, ◌+◌, ◌-◌, ◌*◌, ◌/◌, ◌%◌, ◌≤◌, min, length, take, drop, get_or, Err, Ok, Option, Some, None}
 use Rattle.std.proofs.Math.Path.{refl, sym}
 use Rattle.std.proofs.Common.{◌∙◌, length-take, length-drop, length-take-le, take-take, take_at}
 use native.Mathlib.Omega.{arith}
@@ -9,8 +9,8 @@ use Rattle.std.proofs.lemmas.List.Edits.{take-paste, drop-paste}
 use Rattle.limits.specs.Limits.{largest_image}
 use Rattle.laws.specs.Cases.{decide}
 use Rattle.laws.specs.Sums.{total}
-use Rattle.hextext.specs.declared.Record.{Record}
-use Rattle.hextext.specs.declared.Record.TheVariants.{Data, End, Fault}
+use Rattle.hextext.specs.Answers.{LineRecord}
+use Rattle.hextext.specs.declared.Record.TheVariants.{Data, End}
 use Rattle.hextext.specs.Record.{all_digits, record_bytes, data_of, formed, summed, line_of, placed, judge}
 use Rattle.hextext.proofs.RecordLaws.{byte_at, all_digits_end, bytes_total_end, formed_at, formed_length, record_bytes_head}
 use Rattle.hexdigits.specs.Digits.{PutsBytes}
@@ -38,7 +38,7 @@ paste_again d at bytes n h k =
     sym (take-take at (at + n) p (omega arith)) ∙ rw (take-paste d at bytes n h k) (take_at (take at d) (take n bytes) at (length-take-le at d h)) in
     rw (front, drop-paste d at bytes n h k)
 
-not_end : (room at : ℕ) (l : List ℕ) → judge room at l ≡ End → length l ≡ 11
+not_end : (room at : ℕ) (l : List ℕ) → judge room at l ≡ Ok End → length l ≡ 11
 unfolding judge placed line_of
 not_end room at l e =
     decide (formed l)
@@ -47,37 +47,33 @@ not_end room at l e =
     (λ (s : summed (record_bytes l) ≡ true).
     let none = end_empty room at _ _ _ (rw (q, s) at e) in
     omega (arith, formed_length l q, none))
-    (λ (s : summed (record_bytes l) ≡ false). let z : ◌≡◌ {A = Record} (Fault 2) End = rw (q, s) at e in let y : ◌≡◌ {A = ℕ} 0 1 = cc in absurd (omega arith)))
-    (λ (q : formed l ≡ false). let z : ◌≡◌ {A = Record} (Fault 1) End = rw q at e in let y : ◌≡◌ {A = ℕ} 0 1 = cc in absurd (omega arith))
+    (λ (s : summed (record_bytes l) ≡ false). let z : ◌≡◌ {A = LineRecord} (Err 2) (Ok End) = rw (q, s) at e in let y : ◌≡◌ {A = ℕ} 0 1 = cc in absurd (omega arith)))
+    (λ (q : formed l ≡ false). let z : ◌≡◌ {A = LineRecord} (Err 1) (Ok End) = rw q at e in let y : ◌≡◌ {A = ℕ} 0 1 = cc in absurd (omega arith))
 
-module _ (l : List ℕ) (n at : ℕ) (d : List ℕ) (c : Counted l n) (r : ℕ) (d' : List ℕ) (p : PutsBytes (take (n * 2) (drop 9 l)) at d r d')
+module _ (l : List ℕ) (n at : ℕ) (d : List ℕ) (c : Counted l n) (r : Option ℕ) (d' : List ℕ) (p : PutsBytes (take (n * 2) (drop 9 l)) at d r d')
     (size : length d' ≡ length d) where
-  by_record : (x : Record) → x ≡ judge (min largest_image (length d)) at l
+  by_record : (x : LineRecord) → x ≡ judge (min largest_image (length d)) at l
       → after_taken x at (data_of (record_bytes l)) d' ≡ after_taken x at (data_of (record_bytes l)) d
-  by_record (Data m) e =
+  by_record (Ok (Data m)) e =
       let good = good_data_record (min largest_image (length d)) at l m (sym e) in
       let all : n ≡ m = omega (arith, c.long, good.long) in
       let put = data_put l d at m good r d' (rw all at p) in
       rw put (paste_again d at (data_of (record_bytes l)) m (omega (arith, good.fits)) (omega (arith, data_length l m good)))
-  by_record End e = let none = not_end (min largest_image (length d)) at l (sym e) in absurd (omega (arith, c.long, c.some))
-  by_record (Fault number) e = rw size
+  by_record (Ok End) e = let none = not_end (min largest_image (length d)) at l (sym e) in absurd (omega (arith, c.long, c.some))
+  by_record (Err number) e = rw size
 
   pub put_alike : TakenAlike l at d d'
   put_alike = record { size = size; same = by_record _ refl }
 
 -- ---- taken
 
--- the answer n is the count of a record that was taken; 0, where nothing is lost
-pub record RecordDue (l : List ℕ) (at : ℕ) (d : List ℕ) (n : ℕ) (d' : List ℕ) : Type 0 where
-  pub taken : (n ≡ 0 → ⊥) → TakesRecord l at d (Data n) d'
-  pub otherwise : n ≡ 0 → TakenAlike l at d d'
+-- the answer is the count of a record that was taken; or nothing is lost
+abbrev pub RecordDue : (l : List ℕ) (at : ℕ) (d : List ℕ) → Option ℕ → (d' : List ℕ) → Type 0
+RecordDue l at d (Some n) d' = TakesRecord l at d (Ok (Data n)) d'
+RecordDue l at d None d' = TakenAlike l at d d'
 
-pub due_untouched : (l : List ℕ) (at : ℕ) (d : List ℕ) → RecordDue l at d 0 d
-due_untouched l at d = record { taken = λ h. absurd (h refl); otherwise = λ e. record { size = refl; same = refl } }
-
-pub due_other : (l : List ℕ) (n at : ℕ) (d : List ℕ) → Counted l n → (r : ℕ) (d' : List ℕ) → PutsBytes (take (n * 2) (drop 9 l)) at d r d'
-    → length d' ≡ length d → RecordDue l at d 0 d'
-due_other l n at d c r d' p size = record { taken = λ h. absurd (h refl); otherwise = λ e. put_alike l n at d c r d' p size }
+pub due_untouched : (l : List ℕ) (at : ℕ) (d : List ℕ) → TakenAlike l at d d
+due_untouched l at d = record { size = refl; same = refl }
 
 mod_then : (a b : ℕ) → (a % 256 + b) % 256 ≡ (a + b) % 256
 mod_then a b = omega arith
@@ -88,15 +84,15 @@ all_mod n high low s check =
     rw (mod_then (n + high) low, mod_then (n + high + low) 0, zero, mod_then (n + high + low) s, mod_then (n + high + low + s) check)
 
 module _ (l : List ℕ) (n at : ℕ) (d : List ℕ) (c : Counted l n) (inside : at ≤ 4096 - n) (due : AddressDue l at) (s : ℕ) (d' : List ℕ)
-    (p : PutsBytes (take (n * 2) (drop 9 l)) at d s d') (small : s < 256) (check : ℕ) (checks : SpellsByte l (9 + n * 2) check)
+    (p : PutsBytes (take (n * 2) (drop 9 l)) at d (Some s) d') (check : ℕ) (checks : SpellsByte l (9 + n * 2) check)
     (adds : (n + at / 256 + at % 256 + s + check) % 256 ≡ 0) where
   fits : at + n ≤ length d
   fits =
       let half : length (take (n * 2) (drop 9 l)) / 2 ≡ n = omega (arith, length-take (n * 2) (drop 9 l), length-drop 9 l, c.long) in
-      omega (arith, half, puts_roomy (take (n * 2) (drop 9 l)) at d s d' p small)
+      omega (arith, half, puts_roomy (take (n * 2) (drop 9 l)) at d s d' p)
 
   pairs : PairsAddUp l 9 n s
-  pairs = (puts_pairs l 9 n d d' at s (omega (arith, c.long)) fits p).sum.good small
+  pairs = (puts_pairs l 9 n d d' at (Some s) (omega (arith, c.long)) fits p).adds
 
   all_pairs : PairsAddUp l 1 (4 + n + 1) ((((((n + at / 256) % 256 + at % 256) % 256 + 0) % 256 + s) % 256 + check) % 256)
   all_pairs =
@@ -134,7 +130,7 @@ module _ (l : List ℕ) (n at : ℕ) (d : List ℕ) (c : Counted l n) (inside : 
         eq-eqb (length l - 1) ((byte_at l 1 + 5) * 2) (omega (arith, counted, c.long)),
       )
 
-  judged : judge (min largest_image (length d)) at l ≡ Data n
+  judged : judge (min largest_image (length d)) at l ≡ Ok (Data n)
   unfolding judge placed line_of summed
   judged =
       let parts = record_bytes_head l (omega (arith, c.long)) in
@@ -143,27 +139,25 @@ module _ (l : List ℕ) (n at : ℕ) (d : List ℕ) (c : Counted l n) (inside : 
       rw (is_formed, eq-eqb (total (record_bytes l) % 256) 0 adds_up, parts, counted, address, kind)
       (sym (typed_data (min largest_image (length d)) at n at 0 refl (λ z. omega (arith, c.some)) refl (omega (arith, fits, c.small))))
 
-  due_taken : RecordDue l at d n d'
+  due_taken : TakesRecord l at d (Ok (Data n)) d'
   due_taken =
-      let put = data_put l d at n (good_data_record (min largest_image (length d)) at l n judged) s d' p in
-      record {
-        taken = λ h. record { answers = sym judged; holds = rw judged put };
-        otherwise = λ e. absurd (omega (arith, c.some));
-      }
+      let put = data_put l d at n (good_data_record (min largest_image (length d)) at l n judged) (Some s) d' p in
+      record { answers = sym judged; holds = rw judged put }
 
 check_completes : (m : ℕ) → (m + (256 - m % 256) % 256) % 256 ≡ 0
 check_completes m = omega arith
 
 pub due_taken_when : (l : List ℕ) (n at : ℕ) (d : List ℕ) → Counted l n → at ≤ 4096 - n → (here : Bool) → When here (AddressDue l at) → not here ≡ false
-    → (s : ℕ) (d' : List ℕ) → PutsBytes (take (n * 2) (drop 9 l)) at d s d' → s < 256
-    → (answer : Bool) → When answer (SpellsByte l (9 + n * 2) ((256 - (n + at / 256 + at % 256 + s) % 256) % 256)) → answer ≡ true → RecordDue l at d n d'
-due_taken_when l n at d c inside here a t s d' p small answer w q =
-    due_taken l n at d c inside (when_yes here a t) s d' p small ((256 - (n + at / 256 + at % 256 + s) % 256) % 256) (w.says q)
+    → (o : Option ℕ) (d' : List ℕ) → PutsBytes (take (n * 2) (drop 9 l)) at d o d' → (s : ℕ) → o ≡ Some s
+    → (answer : Bool) → When answer (SpellsByte l (9 + n * 2) ((256 - (n + at / 256 + at % 256 + s) % 256) % 256)) → answer ≡ true
+    → TakesRecord l at d (Ok (Data n)) d'
+due_taken_when l n at d c inside here a t o d' p s e answer w q =
+    due_taken l n at d c inside (when_yes here a t) s d' (rw e at p) ((256 - (n + at / 256 + at % 256 + s) % 256) % 256) (w.says q)
     (check_completes (n + at / 256 + at % 256 + s))
 
 -- ---- the data put
 
-module _ (l : List ℕ) (n at : ℕ) (d : List ℕ) (r : ℕ) (d' : List ℕ) where
+module _ (l : List ℕ) (n at : ℕ) (d : List ℕ) (r : Option ℕ) (d' : List ℕ) where
   pub usual_put : n ≡ 16 → PutsBytes (take 32 (drop 9 l)) at d r d' → PutsBytes (take (n * 2) (drop 9 l)) at d r d'
   usual_put e p = rw e p
 

@@ -1,27 +1,24 @@
 // Any line, judged from its beginning: what gives every refusal.
+ghost use Rattle.std.specs.Prelude.{◌≡◌};
 ghost use Rattle.hexlines.specs.Taken.{TakesLine};
-ghost use Rattle.hexlines.specs.AnyLineLaws.{InsideLength};
+ghost use Rattle.hexlines.specs.AnyLineLaws.{characters_inside};
 
 use hexline::{bare_length, take_record};
-use hextext::Record;
+use hextext::LineRecord;
 
-// How many characters a line has without its line end, and 0 where it has none: then it is no record, as no characters are.
-fn inside_length(line: &[u8]) -> usize
-    ensures { InsideLength line.now result }
+// A line's characters without its line end, and none where it has no line end: then it is no record, as no characters are.
+#[tactic(auto, using(crate::specs::AnyLineLaws::inside_fits, crate::specs::AnyLineLaws::inside_ended, crate::specs::AnyLineLaws::inside_empty, crate::specs::AnyLineLaws::inside_other))]
+fn inside(line: &[u8]) -> &[u8]
+    ensures { result.now ≡ characters_inside line.now }
 {
-    if line.len() == 0 {
-        return 0;
+    match line {
+        [front @ .., b'\n'] => &front[..bare_length(front)],
+        _ => &line[..0],
     }
-    let last = line.len() - 1;
-    if line[last] != b'\n' {
-        return 0;
-    }
-    bare_length(&line[..last])
 }
 
-pub fn take_any(line: &[u8], at: usize, image: &mut [u8]) -> Record
+pub fn take_any(line: &[u8], at: usize, image: &mut [u8]) -> LineRecord
     ensures { TakesLine line.now at image.old result image.new }
 {
-    let end = inside_length(line);
-    take_record(&line[..end], at, image)
+    take_record(inside(line), at, image)
 }

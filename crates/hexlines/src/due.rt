@@ -9,7 +9,7 @@ ghost use Rattle.hexlines.specs.DueLineLaws.{LineDue};
 use crate::letters::{address_is, byte_is};
 use hexdigits::{digit, put_bytes};
 use limits::LARGEST_IMAGE;
-use numbers::fields::number4;
+use numbers::fields::Number;
 
 // Data bytes of most records.
 const USUAL: usize = 16;
@@ -41,40 +41,43 @@ fn is_usual(line: &[u8]) -> bool
     if line.len() != 44 {
         return false;
     }
-    if number4(line, 0) != USUAL_START {
+    if u32::at(line, 0) != USUAL_START {
         return false;
     }
     line[43] == b'\n'
 }
 
-// The count of data bytes that a line tells, where it begins with a colon and ends where the count says; else 0.
-fn told_count(line: &[u8]) -> usize
+// The count of data bytes that a line tells, where it begins with a colon, has data and ends where the count says.
+fn told_count(line: &[u8]) -> Option<usize>
     requires { 12 < length line.now }
     ensures { TellsCount line.now result }
 {
     if is_usual(line) {
-        return USUAL;
+        return Some(USUAL);
     }
     if line[0] != b':' {
-        return 0;
+        return None;
     }
-    let high = digit(line[1]) as usize;
+    let high = digit(line[1]);
     if 16 <= high {
-        return 0;
+        return None;
     }
-    let low = digit(line[2]) as usize;
+    let low = digit(line[2]);
     if 16 <= low {
-        return 0;
+        return None;
     }
-    let count = high * 16 + low;
+    let count = usize::from(high * 16 + low);
+    if count == 0 {
+        return None;
+    }
     if ends_at(line, 11 + count * 2) {
-        return count;
+        return Some(count);
     }
-    0
+    None
 }
 
 // Puts the data. Where their number is a constant, no loop over blocks is left.
-fn put_data(line: &[u8], count: usize, image: &mut [u8], at: usize) -> usize
+fn put_data(line: &[u8], count: usize, image: &mut [u8], at: usize) -> Option<u8>
     requires { (9 + count * 2 ≤ length line.now) × (count < 256) }
     ensures { PutsBytes (take (count * 2) (drop 9 line.now)) at image.old result image.new }
 {
@@ -84,37 +87,31 @@ fn put_data(line: &[u8], count: usize, image: &mut [u8], at: usize) -> usize
     put_bytes(&line[9..9 + count * 2], image, at)
 }
 
-// Takes a line without its line end, which is as long as its count says. The count, or 0 where it is no such record; then the image
+// Takes a line without its line end, which is as long as its count says, and gives the count. Where it is no such record, the image
 // may hold what its characters say, and is cleared or written over when the line is judged.
-fn take_counted(line: &[u8], count: usize, at: usize, image: &mut [u8]) -> usize
+fn take_counted(line: &[u8], count: usize, at: usize, image: &mut [u8]) -> Option<usize>
     requires { Counted line.now count }
     ensures { RecordDue line.now at image.old result image.new }
 {
     if LARGEST_IMAGE - count < at {
-        return 0;
+        return None;
     }
     if !address_is(line, at) {
-        return 0;
+        return None;
     }
-    let sum = put_data(line, count, image, at);
-    if 256 <= sum {
-        return 0;
-    }
-    let check = (256 - (count + at / 256 + at % 256 + sum) % 256) % 256;
+    let sum = put_data(line, count, image, at)?;
+    let check = (256 - (count + at / 256 + at % 256 + usize::from(sum)) % 256) % 256;
     if byte_is(line, 9 + count * 2, check) {
-        return count;
+        return Some(count);
     }
-    0
+    None
 }
 
 // The same of a line with its line end.
-pub fn take_due(line: &[u8], at: usize, image: &mut [u8]) -> usize
+pub fn take_due(line: &[u8], at: usize, image: &mut [u8]) -> Option<usize>
     requires { 12 < length line.now }
     ensures { LineDue line.now at image.old result image.new }
 {
-    let count = told_count(line);
-    if count == 0 {
-        return 0;
-    }
+    let count = told_count(line)?;
     take_counted(&line[..11 + count * 2], count, at, image)
 }

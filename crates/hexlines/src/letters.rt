@@ -1,9 +1,9 @@
 // A line's characters compared with those that are due, several at once, as one number.
 ghost use Rattle.std.specs.Prelude.{◌≡◌, ◌+◌, ◌≤◌, ◌<◌, length};
 ghost use Rattle.hexdigits.specs.DigitsLaws.{SpellsByte};
-ghost use Rattle.hexlines.specs.LettersLaws.{When, end_record, EightAt, FourDigits, SpelledDigits, AddressDue};
+ghost use Rattle.hexlines.specs.LettersLaws.{When, end_record, FourDigits, SpelledDigits, AddressDue};
 
-use numbers::fields::{number_of_8, number2, number4};
+use numbers::fields::Number;
 
 // The two characters of a data record's type, as a number.
 const TYPE_00: u16 = 0x3030;
@@ -27,11 +27,11 @@ pub fn address_is(line: &[u8], at: usize) -> bool
     requires { at < 4096 }
     ensures { When result (AddressDue line.now at) }
 {
-    if number2(line, 7) != TYPE_00 {
+    if u16::at(line, 7) != TYPE_00 {
         return false;
     }
     let digits = at / 256 * 256 + at / 16 % 16 * 65536 + at % 16 * 16777216;
-    spelled(number4(line, 3), digits as u32)
+    spelled(u32::at(line, 3), digits as u32)
 }
 
 // Whether the two characters at a place spell this byte: with two zeros after them they are four.
@@ -40,40 +40,12 @@ pub fn byte_is(line: &[u8], from: usize, byte: usize) -> bool
     ensures { When result (SpellsByte line.now from byte) }
 {
     let digits = byte / 16 + byte % 16 * 256;
-    spelled(number2(line, from) as u32 + 0x3030_0000, digits as u32)
-}
-
-// Eight characters of a line from a place on.
-fn eight_at(line: &[u8], from: usize) -> u64
-    requires { from + 8 ≤ length line.now }
-    ensures { EightAt line.now from result }
-{
-    number_of_8([
-        line[from],
-        line[from + 1],
-        line[from + 2],
-        line[from + 3],
-        line[from + 4],
-        line[from + 5],
-        line[from + 6],
-        line[from + 7],
-    ])
+    spelled(u32::from(u16::at(line, from)) + 0x3030_0000, digits as u32)
 }
 
 // Whether a line is the end record as most writers make it, `:00000001FF` and LF, which every text has once.
 pub fn is_end_record(line: &[u8]) -> bool
     ensures { When result (line.now ≡ end_record) }
 {
-    if line.len() != 12 {
-        return false;
-    }
-    let start = eight_at(line, 0);
-    if start != number_of_8([b':', b'0', b'0', b'0', b'0', b'0', b'0', b'0']) {
-        return false;
-    }
-    let rest = eight_at(line, 4);
-    if rest != number_of_8([b'0', b'0', b'0', b'0', b'1', b'F', b'F', b'\n']) {
-        return false;
-    }
-    true
+    line == b":00000001FF\n".as_slice()
 }

@@ -5,7 +5,7 @@ ghost use Rattle.hexlines.specs.Taken.{TakesLine};
 
 use any_line::take_any;
 use due::take_due;
-use hextext::Record;
+use hextext::{LineRecord, Record};
 use letters::is_end_record;
 
 // Characters compared.
@@ -22,19 +22,18 @@ const END_RECORD: usize = 12;
 
 // Takes one line of a text, with its line end, with `at` bytes of image before it. Where it is refused, the image is all zeros.
 // The answer of `take_any` has a local of its own: shared with the other one it would go by way of memory on every line.
-pub fn take_line(line: &[u8], at: usize, image: &mut [u8]) -> Record
+pub fn take_line(line: &[u8], at: usize, image: &mut [u8]) -> LineRecord
     ensures { TakesLine line.now at image.old result image.new }
 {
     if line.len() <= END_RECORD {
         if is_end_record(line) {
-            return Record::End;
+            return Ok(Record::End);
         }
         let taken = take_any(line, at, image);
         return taken;
     }
-    let count = take_due(line, at, image);
-    if count != 0 {
-        return Record::Data(count);
+    if let Some(count) = take_due(line, at, image) {
+        return Ok(Record::Data(count));
     }
     let taken = take_any(line, at, image);
     taken

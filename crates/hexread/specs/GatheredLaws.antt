@@ -1,11 +1,11 @@
 -- A line that is found by its record's count is the line that reading gathers, up to its LF.
-use Rattle.std.specs.Prelude.{◌≡◌, refl, true, false, ◌&&◌, List, [], ◌∷◌, ◌++◌, ℕ, zero, suc, ◌+◌, ◌-◌, ◌*◌, ◌≤◌, ◌<◌, length, take, drop, get_or}
+use Rattle.std.specs.Prelude.{◌≡◌, refl, true, false, ◌&&◌, List, [], ◌∷◌, ◌++◌, ℕ, zero, suc, ◌+◌, ◌-◌, ◌*◌, ◌≤◌, ◌<◌, length, take, drop, get_or, Some, None, is_some}
 use Rattle.std.proofs.Common.{sym, ap, ◌∙◌, append-nil, append_assoc, suc-le-suc, arith, add-one, take-append-drop, drop-cons, take-suc, get_or-drop}
 use borrow.Author.Tests.{eq-eqb, eqb-true}
 use Rattle.std.proofs.Math.Dec.{eqb}
 use Rattle.std.proofs.Math.ListN.{get_or-eq_default}
 use Rattle.std.proofs.Math.Seq.{get_or-take, take-take, length-take-le}
-use Rattle.laws.specs.Cases.{split, decide, both_left, both_right}
+use Rattle.laws.specs.Cases.{split, decide, never, both_left, both_right}
 use Rattle.refusals.specs.Refusals.{refused, refusal}
 use Rattle.hextext.specs.Record.{all_digits, record_bytes, count_of, data_of, formed, judge}
 use Rattle.hextext.proofs.RecordLaws.{byte_at, record_bytes_head, formed_long, formed_length, formed_digits, formed_colon, judge_unformed}
@@ -25,26 +25,26 @@ pub data Ends (u : List ℕ) (e : ℕ) : ℕ → Type 0 where
 there : (u : List ℕ) (i c : ℕ) → get_or u i 0 ≡ c → 0 < c → i < length u
 there u i c w h = split (length u) i (λ k. omega (arith, get_or-eq_default u 0 k)) (λ k. k)
 
-module _ (u : List ℕ) (e next : ℕ) (f : next ≡ next_line u e) where
-  pub ends_found : (next ≡ 0 → ⊥) → Ends u e next
+module _ (u : List ℕ) (e : ℕ) where
+  pub ends_found : (next : ℕ) → Some next ≡ next_line u e → Ends u e next
   unfolding next_line
-  ends_found z =
+  ends_found next f =
       decide (eqb (get_or u e 0) 10)
       (λ (q : eqb (get_or u e 0) 10 ≡ true).
       let w = eqb-true (get_or u e 0) 10 q in
-      let n : next ≡ e + 1 = rw q at f in
+      let n : next ≡ e + 1 = cc (rw q at f) in
       rw n (lf (there u e 10 w (omega arith)) w))
       (λ (q : eqb (get_or u e 0) 10 ≡ false). decide (eqb (get_or u e 0) 13 && eqb (get_or u (e + 1) 0) 10)
       (λ (p : (eqb (get_or u e 0) 13 && eqb (get_or u (e + 1) 0) 10) ≡ true).
       let r = eqb-true (get_or u e 0) 13 (both_left (eqb (get_or u e 0) 13) (eqb (get_or u (e + 1) 0) 10) p) in
       let w = eqb-true (get_or u (e + 1) 0) 10 (both_right (eqb (get_or u e 0) 13) (eqb (get_or u (e + 1) 0) 10) p) in
-      let n : next ≡ e + 2 = rw (q, p) at f in
+      let n : next ≡ e + 2 = cc (rw (q, p) at f) in
       rw n (crlf (there u (e + 1) 10 w (omega arith)) r w))
-      (λ (p : (eqb (get_or u e 0) 13 && eqb (get_or u (e + 1) 0) 10) ≡ false). absurd (z (rw (q, p) at f))))
+      (λ (p : (eqb (get_or u e 0) 13 && eqb (get_or u (e + 1) 0) 10) ≡ false). let none : Some next ≡ None = rw (q, p) at f in never (sym (ap is_some none))))
 
-  pub ends_none : next ≡ 0 → (other : ℕ) → Ends u e other → ⊥
-  ends_none z other (lf h w) = omega (arith, next_lf u e w)
-  ends_none z other (crlf h r w) = omega (arith, next_crlf u e (λ v. omega arith) r w)
+  pub ends_none : None ≡ next_line u e → (next : ℕ) → Ends u e next → ⊥
+  ends_none f next (lf h w) = never (ap is_some (f ∙ sym (next_lf u e w)))
+  ends_none f next (crlf h r w) = never (ap is_some (f ∙ sym (next_crlf u e (λ v. omega arith) r w)))
 
 pub ends_inside : {u : List ℕ} {e next : ℕ} → Ends u e next → e < length u
 ends_inside (lf h k) = h

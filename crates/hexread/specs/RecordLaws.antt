@@ -1,5 +1,5 @@
 -- A line that is as long as its count says, judged, with its data in the image: a law for each way out.
-use Rattle.std.specs.Prelude.{◌≡◌, refl, Bool, false, cond, ◌&&◌, List, ℕ, ◌+◌, ◌-◌, ◌*◌, ◌%◌, ◌≤◌, ◌<◌, min, ltb, eqb, length, take, drop, get_or}
+use Rattle.std.specs.Prelude.{◌≡◌, refl, Bool, false, cond, List, ℕ, ◌+◌, ◌-◌, ◌*◌, ◌%◌, ◌≤◌, ◌<◌, min, ltb, eqb, length, take, drop, get_or, Err, Ok, Option, Some, None}
 use Rattle.std.proofs.Common.{sym, ◌∙◌, arith, take-take}
 use Rattle.std.proofs.Math.Bool.{true, and-true}
 use borrow.Author.Tests.{eq-eqb, ne_eqb, eqb-true, eqb-false, lt-ltb, le-ltb}
@@ -7,13 +7,13 @@ use Rattle.std.proofs.Math.Seq.{paste, paste-zero}
 use Rattle.limits.specs.Limits.{largest_image}
 use Rattle.laws.specs.Cases.{split, decide}
 use Rattle.laws.specs.Sums.{total}
-use Rattle.hextext.specs.declared.Record.{Record}
-use Rattle.hextext.specs.declared.Record.TheVariants.{Data, End, Fault}
+use Rattle.hextext.specs.Answers.{LineRecord}
+use Rattle.hextext.specs.declared.Record.TheVariants.{Data, End}
 use Rattle.hextext.specs.Record.{all_digits, bytes_of, record_bytes, data_of, formed, summed, line_of, typed, placed, judge}
 use Rattle.hextext.proofs.RecordLaws.{byte_at, all_digits_end, bytes_total_more, bytes_total_end, formed_at, judge_unformed, record_bytes_head}
 use Rattle.hexline.specs.TypedLaws.{end_empty, good_data_record}
 use Rattle.hexdigits.specs.Digits.{PutsBytes}
-use Rattle.hexdigits.specs.WrittenPairsLaws.{PairsWritten}
+use Rattle.hexdigits.specs.WrittenPairsLaws.{SumAndBytes, PairsWritten}
 use Rattle.hexdigits.specs.BytesLaws.{puts_pairs}
 use Rattle.hexline.specs.Taken.{TakesRecord}
 use Rattle.hexline.specs.TakenLaws.{data_from_nine}
@@ -30,36 +30,31 @@ pub record Bounded (count high low kind check : ℕ) : Type 0 where
   pub checks : check ≤ no_digit * 17
 
 -- digits and checksum, then the header
-unfoldable pub judged_parts : (room at count high low kind s check : ℕ) → Record
+unfoldable pub judged_parts : (room at count high low kind s check : ℕ) → LineRecord
 judged_parts room at count high low kind s check =
-    cond (ltb s 256 && ltb (count + high + low + kind + s + check) no_digit)
-    (cond (eqb ((count + high + low + kind + s + check) % 256) 0) (typed room at count (high * 256 + low) kind) (Fault 2))
-    (Fault 1)
+    cond (ltb (count + high + low + kind + s + check) no_digit)
+    (cond (eqb ((count + high + low + kind + s + check) % 256) 0) (typed room at count (high * 256 + low) kind) (Err 2))
+    (Err 1)
 
 module _ (room at count high low kind s check : ℕ) where
   abbrev sum : ℕ
   sum = count + high + low + kind + s + check
 
-  abbrev Judged : Record → Type 0
+  abbrev Judged : LineRecord → Type 0
   Judged r = r ≡ judged_parts room at count high low kind s check
 
-  pub parts_bad_data : 256 ≤ s → Judged (Fault 1)
+  pub parts_bad_pair : no_digit ≤ sum → Judged (Err 1)
   unfolding judged_parts
-  parts_bad_data h = rw (le-ltb s 256 h)
+  parts_bad_pair k = rw (le-ltb sum no_digit k)
 
-  module _ (h : s < 256) where
-    pub parts_bad_pair : no_digit ≤ sum → Judged (Fault 1)
+  module _ (k : sum < no_digit) where
+    pub parts_bad_sum : (sum % 256 ≡ 0 → ⊥) → Judged (Err 2)
     unfolding judged_parts
-    parts_bad_pair k = rw (lt-ltb s 256 h, le-ltb sum no_digit k)
+    parts_bad_sum e = rw (lt-ltb sum no_digit k, ne_eqb (sum % 256) 0 e)
 
-    module _ (k : sum < no_digit) where
-      pub parts_bad_sum : (sum % 256 ≡ 0 → ⊥) → Judged (Fault 2)
-      unfolding judged_parts
-      parts_bad_sum e = rw (lt-ltb s 256 h, lt-ltb sum no_digit k, ne_eqb (sum % 256) 0 e)
-
-      pub parts_typed : (r : Record) → r ≡ typed room at count (high * 256 + low) kind → sum % 256 ≡ 0 → Judged r
-      unfolding judged_parts
-      parts_typed r t e = rw (lt-ltb s 256 h, lt-ltb sum no_digit k, eq-eqb (sum % 256) 0 e) t
+    pub parts_typed : (r : LineRecord) → r ≡ typed room at count (high * 256 + low) kind → sum % 256 ≡ 0 → Judged r
+    unfolding judged_parts
+    parts_typed r t e = rw (lt-ltb sum no_digit k, eq-eqb (sum % 256) 0 e) t
 
 -- ---- a line
 
@@ -72,12 +67,12 @@ pub record Counted (l : List ℕ) (n : ℕ) : Type 0 where
   pub digits : all_digits (drop 1 l) ≡ all_digits (drop 3 l)
 
 -- the judgement r of the line l, and for a data record the image d with its data at `at`, as d'
-pub record RecordTaken (r : Record) (l d d' : List ℕ) (room at : ℕ) : Type 0 where
+pub record RecordTaken (r : LineRecord) (l d d' : List ℕ) (room at : ℕ) : Type 0 where
   pub judged : r ≡ judge room at l
-  pub wrote : (n : ℕ) → r ≡ Data n → d' ≡ paste d at (data_of (record_bytes l)) n
-  pub same : r ≡ End → d' ≡ d
+  pub wrote : (n : ℕ) → r ≡ Ok (Data n) → d' ≡ paste d at (data_of (record_bytes l)) n
+  pub same : r ≡ Ok End → d' ≡ d
 
-taken_fault : (k : ℕ) (l d d' : List ℕ) (room at : ℕ) → judge room at l ≡ Fault k → RecordTaken (Fault k) l d d' room at
+taken_fault : (k : ℕ) (l d d' : List ℕ) (room at : ℕ) → judge room at l ≡ Err k → RecordTaken (Err k) l d d' room at
 taken_fault k l d d' room at j =
     record {
       judged = sym j;
@@ -103,26 +98,26 @@ module _ (l : List ℕ) (n : ℕ) (v : Counted l n) where
       (and-true b)
 
   module _ (d d' : List ℕ) (room at : ℕ) where
-    no_digits : all_digits (drop 1 l) ≡ false → RecordTaken (Fault 1) l d d' room at
+    no_digits : all_digits (drop 1 l) ≡ false → RecordTaken (Err 1) l d d' room at
     no_digits e = taken_fault 1 l d d' room at (judge_unformed room at l (formed_by_digits false e))
 
-    module _ (high low kind : ℕ) (ph : Pair l 3 high) (pl : Pair l 5 low) (pk : Pair l 7 kind) (s : ℕ) (w : PairsWritten l 9 n d d' at s) where
-      taken_bad_data : 256 ≤ s → RecordTaken (Fault 1) l d d' room at
-      taken_bad_data h =
-          let after-kind = none_after_pair l 7 kind pk (omega (arith, long)) (w.sum.bad h) in
+    module _ (high low kind : ℕ) (ph : Pair l 3 high) (pl : Pair l 5 low) (pk : Pair l 7 kind) where
+      pub taken_bad_data : all_digits (drop 9 l) ≡ false → RecordTaken (Err 1) l d d' room at
+      taken_bad_data no-data =
+          let after-kind = none_after_pair l 7 kind pk (omega (arith, long)) no-data in
           let after-low = none_after_pair l 5 low pl (omega (arith, long)) after-kind in
           no_digits (v.digits ∙ none_after_pair l 3 high ph (omega (arith, long)) after-low)
 
-      module _ (hs : s < 256) (check : ℕ) (pc : Pair l (9 + n * 2) check) where
+      module _ (s : ℕ) (w : SumAndBytes l 9 n d d' at s) (check : ℕ) (pc : Pair l (9 + n * 2) check) where
         -- the first pair that is no digits
-        taken_bad_pair : no_digit ≤ n + high + low + kind + s + check → RecordTaken (Fault 1) l d d' room at
+        taken_bad_pair : no_digit ≤ n + high + low + kind + s + check → RecordTaken (Err 1) l d d' room at
         taken_bad_pair h =
             no_digits (v.digits ∙ split 256 high (pair_none l 3 high ph (omega (arith, long)))
             (λ hh. pair_digits l 3 high ph (omega (arith, long)) hh ∙ split 256 low (pair_none l 5 low pl (omega (arith, long)))
             (λ hl. pair_digits l 5 low pl (omega (arith, long)) hl ∙ split 256 kind (pair_none l 7 kind pk (omega (arith, long)))
             (λ hk. pair_digits l 7 kind pk (omega (arith, long)) hk
-            ∙ (w.sum.good hs).digits
-            ∙ pair_none l (9 + n * 2) check pc (omega (arith, v.long)) (omega (arith, v.small))))))
+            ∙ w.adds.digits
+            ∙ pair_none l (9 + n * 2) check pc (omega (arith, v.long)) (omega (arith, v.small, w.small))))))
 
         module _ (below : n + high + low + kind + s + check < no_digit) where
           hh : high < 256
@@ -143,7 +138,7 @@ module _ (l : List ℕ) (n : ℕ) (v : Counted l n) where
               ∙ pair_digits l 3 high ph (omega (arith, long)) hh
               ∙ pair_digits l 5 low pl (omega (arith, long)) hl
               ∙ pair_digits l 7 kind pk (omega (arith, long)) hk
-              ∙ (w.sum.good hs).digits
+              ∙ w.adds.digits
               ∙ pair_digits l (9 + n * 2) check pc (omega (arith, v.long)) hc
               ∙ all_digits_end l (9 + n * 2 + 2) (omega (arith, v.long))
 
@@ -157,9 +152,9 @@ module _ (l : List ℕ) (n : ℕ) (v : Counted l n) where
                 ← pair_byte l 5 low pl hl,
                 ← pair_byte l 7 kind pk hk,
               )
-              (parts_add_up n high low kind _ s _ check (w.sum.good hs).sum (last_byte l (9 + n * 2) check pc hc (omega (arith, v.long))))
+              (parts_add_up n high low kind _ s _ check w.adds.sum (last_byte l (9 + n * 2) check pc hc (omega (arith, v.long))))
 
-          taken_bad_sum : ((n + high + low + kind + s + check) % 256 ≡ 0 → ⊥) → RecordTaken (Fault 2) l d d' room at
+          taken_bad_sum : ((n + high + low + kind + s + check) % 256 ≡ 0 → ⊥) → RecordTaken (Err 2) l d d' room at
           unfolding judge placed line_of summed
           taken_bad_sum h =
               taken_fault 2 l d d' room at (rw (formed_by_digits true digits_all, total_of_pairs, ne_eqb ((n + high + low + kind + s + check) % 256) 0 h))
@@ -178,7 +173,7 @@ module _ (l : List ℕ) (n : ℕ) (v : Counted l n) where
                 ← pair_byte l 7 kind pk hk,
               )
 
-          taken_typed : (r : Record) → (n + high + low + kind + s + check) % 256 ≡ 0 → r ≡ typed room at n (high * 256 + low) kind
+          taken_typed : (r : LineRecord) → (n + high + low + kind + s + check) % 256 ≡ 0 → r ≡ typed room at n (high * 256 + low) kind
               → at ≤ room → room ≤ length d → RecordTaken r l d d' room at
           taken_typed r h e within roomy =
               record {
@@ -186,39 +181,43 @@ module _ (l : List ℕ) (n : ℕ) (v : Counted l n) where
                 wrote = λ m t.
                     let u = good_data_record room at l m (judge_typed h ∙ sym e ∙ t) in
                     let same : n ≡ m = omega (arith, v.long, u.long) in
-                    rw (w.wrote hs, same, data_from_nine l m u.long u.counts, take-take m m (bytes_of (drop 9 l)) (omega arith));
+                    rw (w.wrote, same, data_from_nine l m u.long u.counts, take-take m m (bytes_of (drop 9 l)) (omega arith));
                 same = λ t.
                     let none : n ≡ 0 = end_empty room at n (high * 256 + low) kind (sym e ∙ t) in
-                    rw (w.wrote hs, none) (sym (paste-zero d at (bytes_of (drop 9 l))));
+                    rw (w.wrote, none) (sym (paste-zero d at (bytes_of (drop 9 l))));
               }
 
-      taken_by_parts : (check : ℕ) → Pair l (9 + n * 2) check → (r : Record) → r ≡ judged_parts room at n high low kind s check
-          → at ≤ room → room ≤ length d → RecordTaken r l d d' room at
-      taken_by_parts check pc r e within roomy =
-          split 256 s (λ h. rw (e, ← parts_bad_data room at n high low kind s check h) (taken_bad_data h))
-          (λ hs. split no_digit (sum room at n high low kind s check)
-          (λ h. rw (e, ← parts_bad_pair room at n high low kind s check hs h) (taken_bad_pair hs check pc h))
-          (λ below. decide (eqb (sum room at n high low kind s check % 256) 0)
-          (λ (q : eqb (sum room at n high low kind s check % 256) 0 ≡ true).
-          let z = eqb-true (sum room at n high low kind s check % 256) 0 q in
-          taken_typed hs check pc below r z (e ∙ sym (parts_typed room at n high low kind s check hs below _ refl z)) within roomy)
-          (λ (q : eqb (sum room at n high low kind s check % 256) 0 ≡ false).
-          let z = eqb-false (sum room at n high low kind s check % 256) 0 q in
-          rw (e, ← parts_bad_sum room at n high low kind s check hs below z) (taken_bad_sum hs check pc below z))))
+        taken_by_parts : (r : LineRecord) → r ≡ judged_parts room at n high low kind s check → at ≤ room → room ≤ length d → RecordTaken r l d d' room at
+        taken_by_parts r e within roomy =
+            split no_digit (sum room at n high low kind s check)
+            (λ h. rw (e, ← parts_bad_pair room at n high low kind s check h) (taken_bad_pair h))
+            (λ below. decide (eqb (sum room at n high low kind s check % 256) 0)
+            (λ (q : eqb (sum room at n high low kind s check % 256) 0 ≡ true).
+            let z = eqb-true (sum room at n high low kind s check % 256) 0 q in
+            taken_typed below r z (e ∙ sym (parts_typed room at n high low kind s check below _ refl z)) within roomy)
+            (λ (q : eqb (sum room at n high low kind s check % 256) 0 ≡ false).
+            let z = eqb-false (sum room at n high low kind s check % 256) 0 q in
+            rw (e, ← parts_bad_sum room at n high low kind s check below z) (taken_bad_sum below z)))
 
 -- with its data put
-pub taken_by_bytes : (l : List ℕ) (n : ℕ) → Counted l n → (d d' : List ℕ) (room at : ℕ) (high low kind : ℕ) → Pair l 3 high → Pair l 5 low → Pair l 7 kind
-    → (s : ℕ) → PutsBytes (take (9 + n * 2 - 9) (drop 9 l)) at d s d' → (check : ℕ) → Pair l (9 + n * 2) check
-    → (r : Record) → r ≡ judged_parts room at n high low kind s check → at ≤ room → n ≤ room - at → room ≡ min largest_image (length d)
-    → RecordTaken r l d d' room at
-taken_by_bytes l n v d d' room at high low kind ph pl pk s p check pc r e within fits m =
-    let all : 9 + n * 2 - 9 ≡ n * 2 = omega arith in
-    let written = puts_pairs l 9 n d d' at s (omega (arith, v.long)) (omega arith) (rw all at p) in
-    taken_by_parts l n v d d' room at high low kind ph pl pk s written check pc r e within (omega arith)
+module _ (l : List ℕ) (n : ℕ) (v : Counted l n) (d d' : List ℕ) (room at high low kind : ℕ) (ph : Pair l 3 high) (pl : Pair l 5 low) (pk : Pair l 7 kind)
+    (o : Option ℕ) (p : PutsBytes (take (9 + n * 2 - 9) (drop 9 l)) at d o d') (within : at ≤ room) (fits : n ≤ room - at) (m : room ≡ min largest_image (length d))
+  where
+    written : PairsWritten l 9 n d d' at o
+    written =
+        let all : 9 + n * 2 - 9 ≡ n * 2 = omega arith in
+        puts_pairs l 9 n d d' at o (omega (arith, v.long)) (omega arith) (rw all at p)
+
+    pub taken_by_bytes : (s : ℕ) → o ≡ Some s → (check : ℕ) → Pair l (9 + n * 2) check
+        → (r : LineRecord) → r ≡ judged_parts room at n high low kind s check → RecordTaken r l d d' room at
+    taken_by_bytes s z check pc r e = taken_by_parts l n v d d' room at high low kind ph pl pk s (rw z at written) check pc r e within (omega arith)
+
+    pub taken_no_bytes : o ≡ None → RecordTaken (Err 1) l d d' room at
+    taken_no_bytes z = taken_bad_data l n v d d' room at high low kind ph pl pk (rw z at written)
 
 -- ---- a line whose data have no room
 
-pub taken_by_line : (l d d' : List ℕ) (room at : ℕ) (r : Record) → room ≡ min largest_image (length d) → TakesRecord l at d r d' → RecordTaken r l d d' room at
+pub taken_by_line : (l d d' : List ℕ) (room at : ℕ) (r : LineRecord) → room ≡ min largest_image (length d) → TakesRecord l at d r d' → RecordTaken r l d d' room at
 taken_by_line l d d' room at r m t =
     record {
       judged = t.answers ∙ rw m;

@@ -7,52 +7,37 @@ pub const NO_DIGIT: usize = 2048;
 
 // The value of each character as a hexadecimal digit, or NO_DIGIT: a table, for a pair by itself. It lies on the stack, so its entries are
 // no wider than they must be.
-pub fn values() -> [u16; 256]
-    ensures { DigitValues result }
-{
-    let mut values = [NO_DIGIT as u16; 256];
-    // 0 to 9
-    values[48] = 0;
-    values[49] = 1;
-    values[50] = 2;
-    values[51] = 3;
-    values[52] = 4;
-    values[53] = 5;
-    values[54] = 6;
-    values[55] = 7;
-    values[56] = 8;
-    values[57] = 9;
-    // A to F
-    values[65] = 10;
-    values[66] = 11;
-    values[67] = 12;
-    values[68] = 13;
-    values[69] = 14;
-    values[70] = 15;
-    // a to f
-    values[97] = 10;
-    values[98] = 11;
-    values[99] = 12;
-    values[100] = 13;
-    values[101] = 14;
-    values[102] = 15;
-    values
+#[derive(Clone, Copy)]
+pub struct DigitTable {
+    values: [u16; 256],
+    ghost all: { DigitValues values },
 }
 
-fn value(values: &[u16; 256], character: u8) -> usize
-    requires { DigitValues values.now }
-    ensures { DigitValue character result }
-{
-    let found = values[character as usize];
-    found as usize
-}
+impl DigitTable {
+    pub(crate) fn new() -> DigitTable {
+        let letters = [10, 11, 12, 13, 14, 15];
+        let mut values = [NO_DIGIT as u16; 256];
+        values[48..58].copy_from_slice(&[0, 1, 2, 3, 4, 5, 6, 7, 8, 9]);
+        values[65..71].copy_from_slice(&letters);
+        values[97..103].copy_from_slice(&letters);
+        DigitTable { values }
+    }
 
-// The byte that the two characters at `at` spell, NO_DIGIT or more where they are no digits.
-pub fn pair(values: &[u16; 256], text: &[u8], at: usize) -> usize
-    requires { DigitValues values.now × (at + 1 < length text.now) }
-    ensures { Pair text.now at result }
-{
-    let high = value(values, text[at]);
-    let low = value(values, text[at + 1]);
-    high * 16 + low
+    #[tactic(auto, using(crate::specs::DigitsLaws::value_in_table))]
+    fn value(&self, character: u8) -> usize
+        ensures { DigitValue character result }
+    {
+        let found = self.values[character as usize];
+        found as usize
+    }
+
+    // The byte that the two characters at `at` spell, NO_DIGIT or more where they are no digits.
+    pub(crate) fn pair(&self, text: &[u8], at: usize) -> usize
+        requires { at + 1 < length text.now }
+        ensures { Pair text.now at result }
+    {
+        let high = self.value(text[at]);
+        let low = self.value(text[at + 1]);
+        high * 16 + low
+    }
 }

@@ -1,53 +1,48 @@
 // The first line of a text, found by its record's count.
 ghost use Rattle.std.specs.Prelude.{◌≡◌, ◌≤◌, min, length};
 ghost use Rattle.limits.specs.Limits.{largest_image};
-ghost use Rattle.hexread.specs.DigitsLaws.{DigitValues};
 ghost use Rattle.hexread.specs.LineLaws.{FirstLineRead};
 
-use crate::digits::pair;
+use crate::digits::DigitTable;
 use crate::record::take_record;
 use hexline::next_line;
-use hextext::Record;
+use hextext::{NOT_A_RECORD, Record};
 
-// What the first line of a text is: a record of so many data bytes, or the end record, each with the next line's start,
-// or what it is refused by.
+// What the first line of a text is: a record of so many data bytes, or the end record, each with the next line's start.
 #[derive(Clone, Copy)]
 pub enum Step {
     More(usize, usize),
     Last(usize),
-    Stop(u32),
 }
 
-// The text's first line, its record's data in the image at `at`.
+// The text's first line, its record's data in the image at `at`; or the number that refuses it.
 pub fn first_line(
-    values: &[u16; 256],
+    digits: &DigitTable,
     text: &[u8],
     image: &mut [u8],
     at: usize,
     room: usize,
-) -> Step
-    requires { DigitValues values.now × (at ≤ room) × (room ≡ min largest_image (length image.old)) }
+) -> Result<Step, u32>
+    requires { (at ≤ room) × (room ≡ min largest_image (length image.old)) }
     ensures { FirstLineRead result text.now image.old image.new room at }
 {
     if text.len() < 12 {
-        return Step::Stop(1);
+        return Err(NOT_A_RECORD);
     }
     if text[0] != b':' {
-        return Step::Stop(1);
+        return Err(NOT_A_RECORD);
     }
-    let count = pair(values, text, 1);
+    let count = digits.pair(text, 1);
     if 256 <= count {
-        return Step::Stop(1);
+        return Err(NOT_A_RECORD);
     }
     let end = 11 + count * 2;
-    let next = next_line(text, end);
-    if next == 0 {
-        return Step::Stop(1);
-    }
-    let taken = take_record(values, &text[..end], count, image, at, room);
-    match taken {
-        Record::Data(written) => Step::More(written, next),
-        Record::End => Step::Last(next),
-        Record::Fault(number) => Step::Stop(number),
+    let Some(next) = next_line(text, end) else {
+        return Err(NOT_A_RECORD);
+    };
+    let record = take_record(digits, &text[..end], count, image, at, room)?;
+    match record {
+        Record::Data(written) => Ok(Step::More(written, next)),
+        Record::End => Ok(Step::Last(next)),
     }
 }

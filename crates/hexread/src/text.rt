@@ -1,35 +1,31 @@
 // The whole text, line by line.
-ghost use Rattle.std.specs.Prelude.{◌≡◌, length};
-ghost use Rattle.refusals.specs.declared.Filled.TheVariants.{Refused};
-ghost use Rattle.refusals.specs.Refusals.{refusal};
+ghost use Rattle.std.specs.Prelude.{length};
 ghost use Rattle.refusals.specs.RefusalsLaws.{Begins};
 ghost use Rattle.hextext.specs.Text.{read_text};
 
-use crate::digits::values;
+use crate::digits::DigitTable;
 use crate::line::{Step, first_line};
 use hexline::room_in;
-use refusals::{Filled, Refusal};
-
-fn text_refused(number: u32, line: u64) -> Filled
-    ensures { result ≡ Refused (refusal number line) }
-{
-    Filled::Refused(Refusal {
-        number,
-        detail: line,
-    })
-}
+use refusals::{Filled, Reason, Refusal};
 
 // Reads the text into the image from its start. What stands after the result is anything.
 pub fn read_lines(text: &[u8], image: &mut [u8]) -> Filled
     ensures { Begins (read_text (length image.old) text.now) result image.new }
 {
-    let values = values();
+    let digits = DigitTable::new();
     let room = room_in(image.len());
     let mut start: usize = 0;
     let mut size: usize = 0;
     let mut line: u64 = 1;
+    // what a line is found to be says how far the next one is
     while start < text.len() {
-        match first_line(&values, &text[start..], image, size, room) {
+        let step = first_line(&digits, &text[start..], image, size, room).map_err(
+            |number| Refusal {
+                number,
+                detail: line,
+            },
+        )?;
+        match step {
             Step::More(written, next) => {
                 size += written;
                 start += next;
@@ -37,14 +33,11 @@ pub fn read_lines(text: &[u8], image: &mut [u8]) -> Filled
             }
             Step::Last(next) => {
                 if start + next == text.len() {
-                    return Filled::Length(size);
+                    return Ok(size);
                 }
-                return text_refused(1, line + 1);
-            }
-            Step::Stop(number) => {
-                return text_refused(number, line);
+                return Reason::NotARecord.refused(line + 1);
             }
         }
     }
-    text_refused(1, line)
+    Reason::NotARecord.refused(line)
 }

@@ -1,5 +1,5 @@
 -- Laws of digits, of the bytes that they spell, and of a line's form.
-use Rattle.std.specs.Prelude.{◌≡◌, refl, true, false, ◌&&◌, List, [], ◌∷◌, ltb, eqb, drop, get_or}
+use Rattle.std.specs.Prelude.{◌≡◌, refl, true, false, ◌&&◌, List, [], ◌∷◌, ltb, eqb, drop, get_or, Err}
 use Rattle.std.proofs.Common.{ap, le_of_suc-le-suc, sub-one, drop-cons}
 use Rattle.std.proofs.Math.Bool.{and-false}
 use Prim.Native.Nat.{ℕ, zero, suc, ◌+◌, ◌-◌, ◌*◌, ◌≤◌, ◌<◌, suc-le-suc}
@@ -10,7 +10,6 @@ use Rattle.std.proofs.Math.ListN.{length, drop_of_length-le}
 use Rattle.laws.specs.Cases.{split, never, both_left, both_right}
 use Rattle.laws.specs.Lists.{drop_two}
 use Rattle.laws.specs.Sums.{total}
-use Rattle.hextext.specs.declared.Record.TheVariants.{Fault}
 use Rattle.hextext.specs.Record.{digit, all_digits, bytes_of, record_bytes, count_of, formed, line_of, placed, judge}
 
 -- ---- a digit, by where its character stands
@@ -126,7 +125,7 @@ unfolding formed record_bytes
 formed_length [] e = never e
 formed_length (c ∷ l) e = omega (arith, eqb-true (length l) _ (both_right (all_digits l) _ (both_right (eqb c 58) _ e)))
 
-pub judge_unformed : (room at : ℕ) (l : List ℕ) → formed l ≡ false → judge room at l ≡ Fault 1
+pub judge_unformed : (room at : ℕ) (l : List ℕ) → formed l ≡ false → judge room at l ≡ Err 1
 unfolding judge placed line_of
 judge_unformed room at l e = rw e
 

@@ -1,9 +1,9 @@
 -- A HEX text taken line by line: what each line makes of what was read before it, and what the text comes to when no line is left.
-use Rattle.std.specs.Prelude.{cond, List, [], ◌∷◌, ◌++◌, ℕ, ◌+◌, ◌-◌, eqb, length, take, get_or}
+use Rattle.std.specs.Prelude.{cond, List, [], ◌∷◌, ◌++◌, ℕ, ◌+◌, ◌-◌, eqb, length, take, get_or, Err, Ok}
 use Rattle.refusals.specs.declared.Refusal.{Refusal}
 use Rattle.refusals.specs.Refusals.{Outcome, result, refused, refusal}
-use Rattle.hextext.specs.declared.Record.{Record}
-use Rattle.hextext.specs.declared.Record.TheVariants.{Data, End, Fault}
+use Rattle.hextext.specs.Answers.{LineRecord}
+use Rattle.hextext.specs.declared.Record.TheVariants.{Data, End}
 use Rattle.hextext.specs.Record.{record_bytes, data_of, judge}
 use Rattle.hextext.specs.Text.{bare}
 
@@ -26,8 +26,8 @@ unfoldable pub line_inside : (line : List ℕ) → List ℕ
 line_inside line = bare (take (length line - 1) line)
 
 -- a line with its line end, judged in its place with `at` bytes of image before it; what does not end with LF is no record
-unfoldable pub line_record : (room at : ℕ) (line : List ℕ) → Record
-line_record room at line = cond (eqb (get_or line (length line - 1) 0) 10) (judge room at (line_inside line)) (Fault 1)
+unfoldable pub line_record : (room at : ℕ) (line : List ℕ) → LineRecord
+line_record room at line = cond (eqb (get_or line (length line - 1) 0) 10) (judge room at (line_inside line)) (Err 1)
 
 abbrev pub line_data : (line : List ℕ) → List ℕ
 line_data line = data_of (record_bytes (line_inside line))
@@ -41,10 +41,10 @@ pub data Progress : Type 0 where
   stopped : Refusal → Progress
 
 -- by the record of the next line
-abbrev pub after_record : Record → (lines : ℕ) (image bytes : List ℕ) → Progress
-after_record (Data n) lines image bytes = under_way (lines + 1) (image ++ bytes)
-after_record End lines image bytes = whole (lines + 1) image
-after_record (Fault n) lines image bytes = stopped (refusal n (lines + 1))
+abbrev pub after_record : LineRecord → (lines : ℕ) (image bytes : List ℕ) → Progress
+after_record (Ok (Data n)) lines image bytes = under_way (lines + 1) (image ++ bytes)
+after_record (Ok End) lines image bytes = whole (lines + 1) image
+after_record (Err n) lines image bytes = stopped (refusal n (lines + 1))
 
 -- one more line. Nothing may follow the end record, and nothing comes after a fault
 unfoldable pub after_line : (room : ℕ) (line : List ℕ) → Progress → Progress

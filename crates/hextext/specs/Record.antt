@@ -1,11 +1,9 @@
 -- A line of a HEX text, judged as a record.
-use Rattle.std.specs.Prelude.{Bool, true, false, cond, ◌&&◌, List, [], ◌∷◌, ℕ, ◌+◌, ◌-◌, ◌*◌, ◌%◌, ltb, leb, eqb, length, take, drop, get_or}
+use Rattle.std.specs.Prelude.{Bool, true, false, cond, ◌&&◌, List, [], ◌∷◌, ℕ, ◌+◌, ◌-◌, ◌*◌, ◌%◌, ltb, leb, eqb, length, take, drop, get_or, Err, Ok}
 use Rattle.laws.specs.Sums.{total}
 use Rattle.hextext.specs.declared.Header.{Header}
-use Rattle.hextext.specs.declared.TextLine.{TextLine}
-use Rattle.hextext.specs.declared.TextLine.TheVariants.{Good, Bad}
-use Rattle.hextext.specs.declared.Record.{Record}
-use Rattle.hextext.specs.declared.Record.TheVariants.{Data, End, Fault}
+use Rattle.hextext.specs.Answers.{TextLine, LineRecord}
+use Rattle.hextext.specs.declared.Record.TheVariants.{Data, End}
 
 -- the value of a hexadecimal digit in either case, and 16 for any other character
 unfoldable pub digit : ℕ → ℕ
@@ -57,20 +55,20 @@ header count address type = record { count = count; address = address; kind = ty
 unfoldable pub line_of : List ℕ → TextLine
 line_of line =
     cond (formed line)
-    (cond (summed (record_bytes line)) (Good (header (count_of (record_bytes line)) (address_of (record_bytes line)) (type_of (record_bytes line)))) (Bad 2))
-    (Bad 1)
+    (cond (summed (record_bytes line)) (Ok (header (count_of (record_bytes line)) (address_of (record_bytes line)) (type_of (record_bytes line)))) (Err 2))
+    (Err 1)
 
 -- type, count and address (3), then room (4), with `at` bytes of image before this record
-unfoldable pub typed : (room at count address type : ℕ) → Record
+unfoldable pub typed : (room at count address type : ℕ) → LineRecord
 typed room at count address type =
     cond (eqb type 0)
-    (cond (ltb 0 count && eqb address at) (cond (leb (at + count) room) (Data count) (Fault 4)) (Fault 3))
-    (cond (eqb type 1 && (eqb count 0 && eqb address 0)) End (Fault 3))
+    (cond (ltb 0 count && eqb address at) (cond (leb (at + count) room) (Ok (Data count)) (Err 4)) (Err 3))
+    (cond (eqb type 1 && (eqb count 0 && eqb address 0)) (Ok End) (Err 3))
 
-unfoldable pub placed : (room at : ℕ) → TextLine → Record
-placed room at (Good h) = typed room at h.count h.address h.kind
-placed room at (Bad number) = Fault number
+unfoldable pub placed : (room at : ℕ) → TextLine → LineRecord
+placed room at (Ok h) = typed room at h.count h.address h.kind
+placed room at (Err number) = Err number
 
 -- a line judged in its place: by itself first
-unfoldable pub judge : (room at : ℕ) → List ℕ → Record
+unfoldable pub judge : (room at : ℕ) → List ℕ → LineRecord
 judge room at line = placed room at (line_of line)

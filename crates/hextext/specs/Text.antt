@@ -1,9 +1,9 @@
 -- A HEX text read: its lines judged in order, each a record, until the end record.
-use Rattle.std.specs.Prelude.{cond, List, [], ◌∷◌, ◌++◌, ℕ, suc, ◌+◌, ◌-◌, min, eqb, length, take, get_or}
+use Rattle.std.specs.Prelude.{cond, List, [], ◌∷◌, ◌++◌, ℕ, suc, ◌+◌, ◌-◌, min, eqb, length, take, get_or, Err, Ok}
 use Rattle.limits.specs.Limits.{largest_image}
 use Rattle.refusals.specs.Refusals.{Outcome, result, refused, refusal}
-use Rattle.hextext.specs.declared.Record.{Record}
-use Rattle.hextext.specs.declared.Record.TheVariants.{Data, End, Fault}
+use Rattle.hextext.specs.Answers.{LineRecord}
+use Rattle.hextext.specs.declared.Record.TheVariants.{Data, End}
 use Rattle.hextext.specs.Record.{record_bytes, data_of, judge}
 
 -- how many characters the first line of a text has: those before its first LF, or all
@@ -17,11 +17,11 @@ bare line = cond (eqb (get_or line (length line - 1) 0) 13) (take (length line -
 
 -- what the record of a line makes of the text, with the image before it and the rest of the text after its line end:
 -- data go on to `next`, the end record wants nothing after it, a fault is refused at this line
-unfoldable pub after : Record → (line : ℕ) (image rest : List ℕ) → (next : Outcome) → Outcome
-after (Data n) line image rest next = next
-after End line image [] next = result image
-after End line image (c ∷ rest) next = refused (refusal 1 (line + 1))
-after (Fault n) line image rest next = refused (refusal n line)
+unfoldable pub after : LineRecord → (line : ℕ) (image rest : List ℕ) → (next : Outcome) → Outcome
+after (Ok (Data n)) line image rest next = next
+after (Ok End) line image [] next = result image
+after (Ok End) line image (c ∷ rest) next = refused (refusal 1 (line + 1))
+after (Err n) line image rest next = refused (refusal n line)
 
 -- reading on at a line, with the image so far, the characters of the line already passed, and the text ahead.
 -- A line ends with LF; a text that stops before is refused at this line

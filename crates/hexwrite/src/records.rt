@@ -3,13 +3,12 @@ ghost use Rattle.std.specs.Prelude.{◌≡◌, ◌+◌, ◌*◌, ◌<◌, ◌≤
 ghost use Rattle.limits.specs.Limits.{largest_image};
 ghost use Rattle.refusals.specs.RefusalsLaws.{Begins};
 ghost use Rattle.hextext.specs.Written.{text_of, text_length, write_image};
-ghost use Rattle.hexwrite.specs.DigitsLaws.{Digits};
 
-use crate::digits::hex_digits;
+use crate::digits::DigitTable;
 use crate::record::put_record;
 use limits::LARGEST_IMAGE;
 use numbers::slices::part;
-use refusals::{Filled, Refusal};
+use refusals::{Filled, Reason};
 
 // data bytes of a full record
 const FULL_RECORD: usize = 16;
@@ -34,17 +33,19 @@ fn text_length(count: usize) -> usize
 }
 
 // Writes the text of an image that has room for it.
-fn put_records(digits: &[u8; 16], image: &[u8], text: &mut [u8])
-    requires { Digits digits.now 16 × (length image.now ≤ largest_image) × (text_length (length image.now) ≤ length text.old) }
+fn put_records(image: &[u8], text: &mut [u8])
+    requires { (length image.now ≤ largest_image) × (text_length (length image.now) ≤ length text.old) }
     ensures { take (text_length (length image.now)) text.new ≡ text_of image.now }
 {
-    let mut start: usize = 0;
+    let digits = DigitTable::new();
     let mut at: usize = 0;
+    let mut start: usize = 0;
+    // a record at a time: over `chunks` the proof did not close
     while start < image.len() {
-        at = put_record(digits, text, at, start, 0, part(image, start, FULL_RECORD));
+        at = put_record(&digits, text, at, start, 0, part(image, start, FULL_RECORD));
         start += FULL_RECORD;
     }
-    put_record(digits, text, at, 0, 1, &image[..0]);
+    put_record(&digits, text, at, 0, 1, &[]);
 }
 
 // Writes the image's text from the buffer's start. What stands after the result is anything.
@@ -53,19 +54,12 @@ pub fn write_records(image: &[u8], text: &mut [u8]) -> Filled
 {
     let size = image.len();
     if LARGEST_IMAGE < size {
-        return Filled::Refused(Refusal {
-            number: 4,
-            detail: 0,
-        });
+        return Reason::TooLarge.refused(0);
     }
     let needed = text_length(size);
     if text.len() < needed {
-        return Filled::Refused(Refusal {
-            number: 17,
-            detail: 0,
-        });
+        return Reason::NoRoom.refused(0);
     }
-    let digits = hex_digits();
-    put_records(&digits, image, text);
-    Filled::Length(needed)
+    put_records(image, text);
+    Ok(needed)
 }

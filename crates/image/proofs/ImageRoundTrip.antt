@@ -1,5 +1,5 @@
 -- An image, its sections, their image: an image of bytes with a good layout is, byte for byte, the image of its own sections, which fit.
-use Rattle.std.specs.Prelude.{List, ◌∷◌, ◌++◌, ◌≡◌, refl, drop}
+use Rattle.std.specs.Prelude.{List, ◌∷◌, ◌++◌, ◌≡◌, refl, drop, Ok}
 use Rattle.std.proofs.Math.Path.{sym}
 use Rattle.std.proofs.Common.{ap, ◌∙◌, add-zero, take-append-drop, drop-drop, length-take-le}
 use Prim.Native.Nat.{ℕ, zero, suc, ◌+◌, ◌%◌, ◌≤◌}
@@ -12,7 +12,6 @@ use Rattle.laws.specs.BytesLaws.{bytes_drop}
 use Rattle.laws.specs.Lists.{drop_two}
 use Rattle.laws.specs.Sums.{total}
 use Rattle.numbers.specs.FieldsLaws.{byte_at_lem, number_small}
-use Rattle.refusals.specs.declared.Verdict.TheVariants.{Accepted}
 use Rattle.image.specs.Contents.{line_count, line_place, kind_at, zero_at, offset_at, length_at, sum_at, lines_verdict}
 use Rattle.image.specs.Layout.{body_at, sums_verdict, layout_verdict}
 use Rattle.image.specs.Sections.{Section, sections_from, sections, contents_from, bodies_of, image_of, Rising, Fit}
@@ -35,7 +34,7 @@ sections_count image = count_from image (line_count image) 0
 
 -- ---- the image holds its sections
 
-rising_back : (size : ℕ) (image : List ℕ) (left i previous offset : ℕ) → Bytes image → lines_verdict size image left i previous offset ≡ Accepted
+rising_back : (size : ℕ) (image : List ℕ) (left i previous offset : ℕ) → Bytes image → lines_verdict size image left i previous offset ≡ Ok tt
     → Rising previous (sections_from image left i)
 unfolding sections_from
 rising_back size image zero i previous offset b e = tt
@@ -65,7 +64,7 @@ module _ (image : List ℕ) (i offset : ℕ) (ss : List Section) (h : HoldsSecti
       }
 
 holds_back : (image : List ℕ) (left i previous offset : ℕ) → Bytes image → line_place (i + left) ≤ length image
-    → lines_verdict (length image) image left i previous offset ≡ Accepted → sums_verdict image left i ≡ Accepted
+    → lines_verdict (length image) image left i previous offset ≡ Ok tt → sums_verdict image left i ≡ Ok tt
     → HoldsSections image i offset (sections_from image left i)
 unfolding sections_from contents_from bodies_of
 holds_back image zero i previous offset b room e f =
@@ -79,7 +78,7 @@ holds_back image (suc left) i previous offset b room e f =
 
 -- ---- the whole image
 
-module _ (image : List ℕ) (b : Bytes image) (good : layout_verdict image ≡ Accepted) where
+module _ (image : List ℕ) (b : Bytes image) (good : layout_verdict image ≡ Ok tt) where
   held : HoldsSections image 0 (line_place (line_count image)) (sections image)
   unfolding sections
   held =
@@ -112,7 +111,7 @@ module _ (image : List ℕ) (b : Bytes image) (good : layout_verdict image ≡ A
       ∙ rw (← byte_at_lem image 0, start.marked, ← byte_at_lem image 1, held.contents, none, sections_count image, held.bodies))
 
 -- so one is told by its bodies: where each kind has the same body in two such images, or none in either, these are equal byte for byte
-pub same_bodies_same_image : (image image' : List ℕ) → Bytes image → Bytes image' → layout_verdict image ≡ Accepted → layout_verdict image' ≡ Accepted
+pub same_bodies_same_image : (image image' : List ℕ) → Bytes image → Bytes image' → layout_verdict image ≡ Ok tt → layout_verdict image' ≡ Ok tt
     → ((kind : ℕ) → body_of kind (sections image) ≡ body_of kind (sections image')) → image ≡ image'
 same_bodies_same_image image image' b b' good good' same =
     let sections-same = told_by_bodies 0 0 (sections image) (sections image') (sections_ascend image good) (sections_ascend image' good') same in

@@ -1,5 +1,5 @@
 -- Sections, their image, its sections: the image of fit sections has a good layout, and its sections are those given.
-use Rattle.std.specs.Prelude.{List, [], ◌∷◌, ◌++◌, ◌≡◌, ℕ, ◌+◌, ◌*◌, ◌/◌, ◌%◌, ◌≤◌, ◌<◌}
+use Rattle.std.specs.Prelude.{List, [], ◌∷◌, ◌++◌, ◌≡◌, ℕ, ◌+◌, ◌*◌, ◌/◌, ◌%◌, ◌≤◌, ◌<◌, Ok}
 use Rattle.std.proofs.Math.Path.{refl, ap}
 use Rattle.std.proofs.Common.{zero-add, eq-eqb}
 use native.Mathlib.Omega.{arith}
@@ -9,7 +9,6 @@ use Rattle.laws.specs.Bytes.{Bytes}
 use Rattle.laws.specs.BytesLaws.{bytes_nil, bytes_cons, bytes_append}
 use Rattle.laws.specs.Sums.{total}
 use Rattle.numbers.specs.Fields.{little_endian, number_at}
-use Rattle.refusals.specs.declared.Verdict.TheVariants.{Accepted}
 use Rattle.refusals.specs.VerdictLaws.{ask_passes}
 use Rattle.image.specs.Contents.{line_count, line_place, kind_at, lines_verdict}
 use Rattle.image.specs.Layout.{body_at, sums_verdict, layout_verdict}
@@ -62,7 +61,7 @@ sections_held image i offset (s ∷ ss) h =
     )
 
 lines_held : (image : List ℕ) (i previous offset : ℕ) (ss : List Section) → Rising previous ss → HoldsSections image i offset ss
-    → lines_verdict (length image) image (length ss) i previous offset ≡ Accepted
+    → lines_verdict (length image) image (length ss) i previous offset ≡ Ok tt
 unfolding lines_verdict bodies_of
 lines_held image i previous offset [] r h =
     let long = ap length h.bodies in
@@ -73,7 +72,7 @@ lines_held image i previous offset (s ∷ ss) r h =
     rw (right_passes image i previous offset (record { rises = rises; zero_is = says.zero_is; starts = says.offset_is }), says.kind_is, says.size_is)
     (lines_held image (i + 1) s.kind (offset + length s.body) ss r.2 (others image i offset s ss h))
 
-sums_held : (image : List ℕ) (i offset : ℕ) (ss : List Section) → HoldsSections image i offset ss → sums_verdict image (length ss) i ≡ Accepted
+sums_held : (image : List ℕ) (i offset : ℕ) (ss : List Section) → HoldsSections image i offset ss → sums_verdict image (length ss) i ≡ Ok tt
 unfolding sums_verdict
 sums_held image i offset [] h = refl
 sums_held image i offset (s ∷ ss) h =
@@ -122,7 +121,7 @@ module _ (ss : List Section) where
   unfolding sections
   sections_of_image = rw image_count (sections_held (image_of ss) 0 (line_place (length ss)) ss image_holds)
 
-  pub image_good : Fit ss → layout_verdict (image_of ss) ≡ Accepted
+  pub image_good : Fit ss → layout_verdict (image_of ss) ≡ Ok tt
   image_good fit =
       let long = image_length in
       let count = image_count in

@@ -3,7 +3,7 @@
 use Rattle.std.specs.Prelude.{Bool, ◌&&◌, List, ℕ, zero, suc, ◌+◌, ◌*◌, leb, ltb, eqb}
 use Rattle.limits.specs.Limits.{largest_image, most_lines}
 use Rattle.numbers.specs.Fields.{number_at}
-use Rattle.refusals.specs.declared.Verdict.{Verdict}
+use Rattle.refusals.specs.Answers.{Verdict}
 use Rattle.refusals.specs.Refusals.{ask, and_then}
 
 -- the number of contents lines

@@ -1,5 +1,5 @@
 -- What each check of contents says: from the facts to its verdict, and back; where the bodies stand; that only the contents' own bytes count.
-use Rattle.std.specs.Prelude.{Bool, true, ◌&&◌, List, ◌≡◌, leb, ltb, eqb, take}
+use Rattle.std.specs.Prelude.{Bool, true, ◌&&◌, List, ◌≡◌, leb, ltb, eqb, take, Ok}
 use Rattle.std.proofs.Math.Path.{refl}
 use Rattle.std.proofs.Common.{sym, ◌∙◌, add-zero, zero-add, arith}
 use Prim.Native.Nat.{ℕ, zero, suc, ◌+◌, ◌≤◌, ◌<◌}
@@ -8,7 +8,6 @@ use Rattle.limits.specs.Limits.{largest_image, most_lines}
 use Rattle.laws.specs.Cases.{both_left, both_right}
 use Rattle.numbers.specs.Fields.{number_at}
 use Rattle.numbers.specs.FieldsLaws.{number_within}
-use Rattle.refusals.specs.declared.Verdict.TheVariants.{Accepted}
 use Rattle.refusals.specs.Refusals.{ask}
 use Rattle.refusals.specs.VerdictLaws.{asked, first_passed, next_passed}
 use Rattle.image.specs.Contents.{line_count, line_place, kind_at, zero_at, offset_at, length_at, size_verdict, mark_verdict, start_verdict, count_verdict, line_right, lines_verdict, all_lines, contents_verdict}
@@ -32,11 +31,11 @@ pub record CountRight (size : ℕ) (contents : List ℕ) : Type 0 where
   pub room : line_place (line_count contents) ≤ size
 
 module _ (size : ℕ) (contents : List ℕ) where
-  pub start_passes : StartRight size contents → start_verdict size contents ≡ Accepted
+  pub start_passes : StartRight size contents → start_verdict size contents ≡ Ok tt
   unfolding start_verdict
   start_passes s = rw (le-leb 2 size s.enough, le-leb size largest_image s.most, eq-eqb (number_at 1 contents 0) 0x51 s.marked)
 
-  pub start_passed : start_verdict size contents ≡ Accepted → StartRight size contents
+  pub start_passed : start_verdict size contents ≡ Ok tt → StartRight size contents
   unfolding start_verdict
   start_passed e =
       let sized = asked _ 5 0 (first_passed (size_verdict size) (mark_verdict contents) e) in
@@ -47,13 +46,13 @@ module _ (size : ℕ) (contents : List ℕ) where
         marked = eqb-true (number_at 1 contents 0) 0x51 marked;
       }
 
-  pub count_passes : CountRight size contents → count_verdict size contents ≡ Accepted
+  pub count_passes : CountRight size contents → count_verdict size contents ≡ Ok tt
   unfolding count_verdict
   count_passes s =
       let n = line_count contents in
       rw (le-leb 1 n s.some, le-leb n most_lines s.few, le-leb (line_place n) size s.room)
 
-  pub count_passed : count_verdict size contents ≡ Accepted → CountRight size contents
+  pub count_passed : count_verdict size contents ≡ Ok tt → CountRight size contents
   unfolding count_verdict
   count_passed e =
       let t = each (leb 1 (line_count contents)) (leb (line_count contents) most_lines) (leb (line_place (line_count contents)) size) (asked _ 6 0 e) in
@@ -88,10 +87,10 @@ module _ (contents : List ℕ) (i previous offset : ℕ) where
 -- the first of the lines left, line i, is right, and the others pass
 pub record FirstLineRight (size : ℕ) (contents : List ℕ) (left i previous offset : ℕ) : Type 0 where
   pub right : LineRight contents i previous offset
-  pub others : lines_verdict size contents left (i + 1) (kind_at contents i) (offset + length_at contents i) ≡ Accepted
+  pub others : lines_verdict size contents left (i + 1) (kind_at contents i) (offset + length_at contents i) ≡ Ok tt
 
 module _ (size : ℕ) (contents : List ℕ) where
-  pub line_passed : (left i previous offset : ℕ) → lines_verdict size contents (suc left) i previous offset ≡ Accepted
+  pub line_passed : (left i previous offset : ℕ) → lines_verdict size contents (suc left) i previous offset ≡ Ok tt
       → FirstLineRight size contents left i previous offset
   unfolding lines_verdict
   line_passed left i previous offset e =
@@ -100,7 +99,7 @@ module _ (size : ℕ) (contents : List ℕ) where
         others = next_passed (ask (line_right contents i previous offset) 7 i) _ e;
       }
 
-  pub lines_ended : (i previous offset : ℕ) → lines_verdict size contents 0 i previous offset ≡ Accepted → offset ≡ size
+  pub lines_ended : (i previous offset : ℕ) → lines_verdict size contents 0 i previous offset ≡ Ok tt → offset ≡ size
   unfolding lines_verdict
   lines_ended i previous offset e = eqb-true offset size (asked _ 7 i e)
 
@@ -110,14 +109,14 @@ module _ (size : ℕ) (contents : List ℕ) where
 pub record ContentsGood (size : ℕ) (contents : List ℕ) : Type 0 where
   pub started : StartRight size contents
   pub counted : CountRight size contents
-  pub lines : all_lines size contents ≡ Accepted
+  pub lines : all_lines size contents ≡ Ok tt
 
 module _ (size : ℕ) (contents : List ℕ) where
-  pub contents_pass : ContentsGood size contents → contents_verdict size contents ≡ Accepted
+  pub contents_pass : ContentsGood size contents → contents_verdict size contents ≡ Ok tt
   unfolding contents_verdict
   contents_pass g = rw (start_passes size contents g.started, count_passes size contents g.counted, g.lines)
 
-  pub contents_passed : contents_verdict size contents ≡ Accepted → ContentsGood size contents
+  pub contents_passed : contents_verdict size contents ≡ Ok tt → ContentsGood size contents
   unfolding contents_verdict
   contents_passed e =
       let next = next_passed (start_verdict size contents) _ e in
@@ -131,14 +130,14 @@ module _ (size : ℕ) (contents : List ℕ) where
 
 module _ (size : ℕ) (contents : List ℕ) where
   -- the lines left start no body past the end
-  offset_within : (left i previous offset : ℕ) → lines_verdict size contents left i previous offset ≡ Accepted → offset ≤ size
+  offset_within : (left i previous offset : ℕ) → lines_verdict size contents left i previous offset ≡ Ok tt → offset ≤ size
   offset_within zero i previous offset e = omega (arith, lines_ended size contents i previous offset e)
   offset_within (suc left) i previous offset e =
       let p = line_passed size contents left i previous offset e in
       omega (arith, offset_within left (i + 1) (kind_at contents i) (offset + length_at contents i) p.others)
 
   -- nor end one there
-  pub bodies_within : (left i previous offset : ℕ) → lines_verdict size contents left i previous offset ≡ Accepted → (k : ℕ) → k < left
+  pub bodies_within : (left i previous offset : ℕ) → lines_verdict size contents left i previous offset ≡ Ok tt → (k : ℕ) → k < left
       → offset_at contents (i + k) + length_at contents (i + k) ≤ size
   bodies_within zero i previous offset e k h = absurd (omega arith)
   bodies_within (suc left) i previous offset e zero h =

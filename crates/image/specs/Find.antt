@@ -1,9 +1,8 @@
 -- A kind's body: what it is, and where in the image it stands.
-use Rattle.std.specs.Prelude.{Bool, true, false, cond, List, [], ◌∷◌, ◌≡◌, ℕ, zero, suc, ◌+◌, eqb}
+use Rattle.std.specs.Prelude.{Bool, true, false, cond, List, [], ◌∷◌, ◌≡◌, ℕ, zero, suc, ◌+◌, eqb, Err, Ok}
 use Rattle.std.proofs.Math.Option.{Option, none, some}
 use Rattle.std.specs.Borrow.{Bor}
-use Rattle.refusals.specs.declared.Verdict.{Verdict}
-use Rattle.refusals.specs.declared.Verdict.TheVariants.{Accepted, Refused}
+use Rattle.refusals.specs.Answers.{Verdict}
 use Rattle.image.specs.Contents.{line_count, kind_at, offset_at}
 use Rattle.image.specs.Layout.{layout_verdict}
 use Rattle.image.specs.Sections.{Section, sections}
@@ -15,8 +14,8 @@ body_of kind (s ∷ ss) = cond (eqb kind s.kind) (some s.body) (body_of kind ss)
 
 -- an ill-laid image holds nothing
 abbrev pub where_good : {A : Type 0} → Verdict → Option A → Option A
-where_good Accepted o = o
-where_good (Refused r) o = none
+where_good (Ok tt) o = o
+where_good (Err r) o = none
 
 unfoldable pub found : List ℕ → (kind : ℕ) → Option (List ℕ)
 found image kind = where_good (layout_verdict image) (body_of kind (sections image))

@@ -1,9 +1,8 @@
 -- Laws of the order of kinds: it strictly rises in a good layout, a kind is not among those above it, and so sections are told by their bodies.
-use Rattle.std.specs.Prelude.{List, [], ◌∷◌, ◌≡◌, refl, ℕ, zero, suc, ◌+◌, ◌≤◌, ◌<◌, length}
+use Rattle.std.specs.Prelude.{List, [], ◌∷◌, ◌≡◌, refl, ℕ, zero, suc, ◌+◌, ◌≤◌, ◌<◌, length, Ok}
 use Rattle.std.proofs.Math.Option.{none, some}
 use Rattle.std.proofs.Common.{sym, ◌∙◌, le_refl, arith, eq-eqb, ne_eqb}
 use Rattle.laws.specs.Cases.{split}
-use Rattle.refusals.specs.declared.Verdict.TheVariants.{Accepted}
 use Rattle.image.specs.Contents.{line_count, line_place, kind_at, length_at, lines_verdict}
 use Rattle.image.specs.Layout.{layout_verdict}
 use Rattle.image.specs.Sections.{Section, sections_from, sections}
@@ -16,7 +15,7 @@ abbrev pub Ascending : (previous : ℕ) → List Section → Type 0
 Ascending previous [] = Unit {0}
 Ascending previous (s ∷ ss) = (previous < s.kind) × Ascending s.kind ss
 
-lines_ascend : (size : ℕ) (image : List ℕ) (left i previous offset : ℕ) → lines_verdict size image left i previous offset ≡ Accepted
+lines_ascend : (size : ℕ) (image : List ℕ) (left i previous offset : ℕ) → lines_verdict size image left i previous offset ≡ Ok tt
     → Ascending previous (sections_from image left i)
 unfolding sections_from
 lines_ascend size image zero i previous offset e = tt
@@ -24,7 +23,7 @@ lines_ascend size image (suc left) i previous offset e =
     let p = line_passed size image left i previous offset e in
     (p.right.rises, lines_ascend size image left (i + 1) (kind_at image i) (offset + length_at image i) p.others)
 
-pub sections_ascend : (image : List ℕ) → layout_verdict image ≡ Accepted → Ascending 0 (sections image)
+pub sections_ascend : (image : List ℕ) → layout_verdict image ≡ Ok tt → Ascending 0 (sections image)
 unfolding sections
 sections_ascend image good =
     lines_ascend (length image) image (line_count image) 0 0 (line_place (line_count image)) (layout_passed image good).contents.lines

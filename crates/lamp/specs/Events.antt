@@ -1,12 +1,11 @@
 -- What each event makes of a panel and its buffer.
-use Rattle.std.specs.Prelude.{ℕ, ◌+◌, ◌%◌, ◌^◌, min, cond, List, [], ◌∷◌, length, take, replicate, ◌==◌, slice_index, slice_set}
+use Rattle.std.specs.Prelude.{ℕ, ◌+◌, ◌%◌, ◌^◌, min, cond, List, [], ◌∷◌, length, take, replicate, ◌==◌, slice_index, slice_set, Err, Ok}
 use Rattle.std.proofs.Math.Seq.{paste}
 use Rattle.limits.specs.Limits.{largest_image}
-use Rattle.refusals.specs.declared.Verdict.{Verdict}
-use Rattle.refusals.specs.declared.Verdict.TheVariants.{Accepted, Refused}
+use Rattle.refusals.specs.Answers.{Verdict}
 use Rattle.refusals.specs.Refusals.{result, refused, refusal}
-use Rattle.hextext.specs.declared.Record.{Record}
-use Rattle.hextext.specs.declared.Record.TheVariants.{Data, End, Fault}
+use Rattle.hextext.specs.Answers.{LineRecord}
+use Rattle.hextext.specs.declared.Record.TheVariants.{Data, End}
 use Rattle.hextext.specs.Lines.{line_record, line_data}
 use Rattle.panel.specs.Verdict.{verdict_of}
 use Rattle.panel.specs.Load.{judged, load_text}
@@ -45,14 +44,14 @@ abbrev pub first_withheld : (at : ℕ) (buffer : List ℕ) → List ℕ
 first_withheld at buffer = cond (at == 0) (slice_set buffer 0 0) buffer
 
 -- by the record of the next line
-abbrev pub record_taken : Record → (bytes : List ℕ) → Standing → Standing
-record_taken (Data n) bytes s =
+abbrev pub record_taken : LineRecord → (bytes : List ℕ) → Standing → Standing
+record_taken (Ok (Data n)) bytes s =
     let at = size_of s.panel in
     standing (under_way s.panel.level (next_line s.panel) (at + n) (first_kept at bytes s.panel.first))
     (first_withheld at (paste s.buffer at bytes n))
-record_taken End bytes s =
+record_taken (Ok End) bytes s =
     standing (text_whole s.panel.level (next_line s.panel) (size_of s.panel) s.panel.first) s.buffer
-record_taken (Fault number) bytes s = stopped_by number s
+record_taken (Err number) bytes s = stopped_by number s
 
 unfoldable pub next_taken : (line : List ℕ) → Standing → Standing
 next_taken line s = record_taken (line_record (min largest_image (length s.buffer)) (size_of s.panel) line) (line_data line) s
@@ -69,8 +68,8 @@ lines_taken (line ∷ lines) s = lines_taken lines (line_taken line s)
 
 -- the first byte back in its place, and the image judged: the buffer stays so, or is cleared where the image is refused
 abbrev pub image_judged : Verdict → (level : ℕ) (image buffer : List ℕ) → Standing
-image_judged Accepted level image buffer = standing (after_load level (result image)) buffer
-image_judged (Refused r) level image buffer = ended level (length buffer) (refused r)
+image_judged (Ok tt) level image buffer = standing (after_load level (result image)) buffer
+image_judged (Err r) level image buffer = ended level (length buffer) (refused r)
 
 abbrev pub restored : Standing → List ℕ
 restored s = slice_set s.buffer 0 s.panel.first

@@ -1,5 +1,5 @@
 -- A panel's answers as C gets them.
-use Rattle.panel.specs.declared.identities.Identified.{Identified}
+use Rattle.panel.specs.Answers.{Identified}
 use Rattle.lamp.specs.declared.Panel.{Panel}
 use Rattle.lamp.specs.declared.for_c.StatusForC.{StatusForC}
 use Rattle.lamp.specs.declared.for_c.GaugeForC.{GaugeForC}

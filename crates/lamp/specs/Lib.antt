@@ -5,4 +5,3 @@ pub mod InNumbers
 pub mod ForC
 pub mod LoadsLaws
 pub mod QuestionsLaws
-pub mod ForCLaws

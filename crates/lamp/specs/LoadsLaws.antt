@@ -1,24 +1,20 @@
 -- Power-on and loads: a law for each way out.
-use Rattle.std.specs.Prelude.{◌≡◌, ℕ, zero, suc, ◌+◌, ◌-◌, ◌<◌, ◌≤◌, min, true, false, List, [], ◌∷◌, ◌++◌, length, take, replicate, ◌==◌, ◌≢◌, nat_eq, slice_index, slice_set, refl}
-use Rattle.std.proofs.Common.{sym, ap, ◌∙◌, arith, length-take, take_all, Fits}
+use Rattle.std.specs.Prelude.{◌≡◌, ℕ, zero, suc, ◌+◌, ◌-◌, ◌≤◌, min, true, false, List, [], ◌∷◌, ◌++◌, length, take, replicate, ◌==◌, ◌≢◌, nat_eq, slice_index, slice_set, refl, Err, Ok}
+use Rattle.std.proofs.Common.{sym, ap, ◌∙◌, arith, length-take, take_all}
 use Rattle.std.proofs.Math.Nat.{sub-zero}
-use borrow.Author.Tests.{lt-ltb, le-ltb, eq-eqb, ne_eqb, eqb-true}
+use borrow.Author.Tests.{eq-eqb, ne_eqb, eqb-true}
 use Rattle.std.proofs.lemmas.List.{length-replicate}
-use Rattle.std.proofs.Math.Seq.{set_out, paste}
-use Rattle.std.specs.Int.{w32}
+use Rattle.std.proofs.Math.Seq.{paste}
 use Rattle.limits.specs.Limits.{largest_image}
 use Rattle.laws.specs.Cases.{split, decide}
 use Rattle.numbers.specs.Slices.{cleared_from}
-use Rattle.refusals.specs.declared.Refusal.{Refusal}
-use Rattle.refusals.specs.declared.Verdict.{Verdict}
-use Rattle.refusals.specs.declared.Verdict.TheVariants.{Accepted, Refused as NotAccepted}
-use Rattle.refusals.specs.declared.Filled.{Filled}
-use Rattle.refusals.specs.declared.Filled.TheVariants.{Length, Refused}
+use Rattle.refusals.specs.Answers.{Verdict}
+use Rattle.refusals.specs.Answers.{Filled}
 use Rattle.refusals.specs.Refusals.{Outcome, result, refused, checked, answer_to, Fills, Settled}
 use Rattle.refusals.specs.RefusalsLaws.{result_of}
 use Rattle.refusals.specs.VerdictLaws.{first_passed, next_passed, checked_result}
-use Rattle.hextext.specs.declared.Record.{Record}
-use Rattle.hextext.specs.declared.Record.TheVariants.{Data, End, Fault}
+use Rattle.hextext.specs.Answers.{LineRecord}
+use Rattle.hextext.specs.declared.Record.TheVariants.{Data, End}
 use Rattle.hextext.specs.Lines.{line_inside, line_record, line_data}
 use Rattle.hexline.specs.TypedLaws.{good_data_record, data_length}
 use Rattle.hextext.specs.Text.{read_text}
@@ -31,13 +27,6 @@ use Rattle.lamp.specs.declared.Panel.{Panel}
 use Rattle.lamp.specs.Panel.{at_line, at_end_record, at_image, size_of, under_way, after_load, level_kept, Standing, standing, ended}
 use Rattle.lamp.specs.Events.{powered_on, text_loaded, text_begun, next_line, stopped_panel, stopped_by, first_kept, first_withheld, next_taken, line_taken, image_judged, whole_judged, text_ended}
 
-module _ (level : ℕ) where
-  pub level_small : level < 256 → level ≡ level_kept level
-  level_small h = rw (lt-ltb level 256 h)
-
-  pub level_large : 256 ≤ level → 0 ≡ level_kept level
-  level_large h = rw (le-ltb level 256 h)
-
 cleared_zeros : (buffer : List ℕ) → cleared_from 0 buffer ≡ replicate (length buffer) 0
 cleared_zeros buffer = rw (sub-zero (length buffer))
 
@@ -48,30 +37,18 @@ cleared_twice buffer = rw (cleared_zeros buffer, cleared_zeros (replicate (lengt
 
 -- its image, if there is one, is no larger than document 01 allows
 pub record SmallImage (answer : Filled) : Type 0 where
-  pub small : (size : ℕ) → answer ≡ Length size → size ≤ largest_image
+  pub small : (size : ℕ) → answer ≡ Ok size → size ≤ largest_image
 
 abbrev pub answer_panel : (level : ℕ) → Filled → Panel
-answer_panel level (Length size) = record { lines_or_detail = 0; size_or_number = size; level = level; stage = at_image; first = 0 }
-answer_panel level (Refused r) = record { lines_or_detail = r.detail; size_or_number = r.number; level = level; stage = 0; first = 0 }
-
-module _ (level : ℕ) (answer : Filled) where
-  pub small_fits : SmallImage answer → (size : ℕ) → answer ≡ Length size → Fits w32 size
-  small_fits s size e = record { fits = omega (arith, s.small size e) }
-
-  pub panel_accepted : (size : ℕ) → answer ≡ Length size
-      → record { lines_or_detail = 0; size_or_number = size; level = level; stage = at_image; first = 0 } ≡ answer_panel level answer
-  panel_accepted size e = rw e
-
-  pub panel_refused : (r : Refusal) → answer ≡ Refused r
-      → record { lines_or_detail = r.detail; size_or_number = r.number; level = level; stage = 0; first = 0 } ≡ answer_panel level answer
-  panel_refused r e = rw e
+answer_panel level (Ok size) = record { lines_or_detail = 0; size_or_number = size; level = level; stage = at_image; first = 0 }
+answer_panel level (Err r) = record { lines_or_detail = r.detail; size_or_number = r.number; level = level; stage = 0; first = 0 }
 
 answer_after : (level : ℕ) (o : Outcome) → answer_panel level (answer_to o) ≡ after_load level o
 answer_after level (result image) = refl
 answer_after level (refused r) = refl
 
 -- what a panel accepts is no larger
-accepted_small : (level : ℕ) (image : List ℕ) → verdict_of level image ≡ Accepted → length image ≤ largest_image
+accepted_small : (level : ℕ) (image : List ℕ) → verdict_of level image ≡ Ok tt → length image ≤ largest_image
 unfolding verdict_of layout_verdict
 accepted_small level image e =
     let laid = first_passed (layout_verdict image) _ (next_passed (level_verdict level) _ e) in
@@ -100,19 +77,19 @@ module _ (level size : ℕ) (before after : List ℕ) (answer : Filled) (n : ℕ
   pub keeps_small : SmallImage answer
   keeps_small = record { small = λ s e. by (verdict_of level held) refl s (sym answer_held ∙ e) }
     where
-      by : (v : Verdict) → verdict_of level held ≡ v → (s : ℕ) → answered (verdict_of level held) n ≡ Length s → s ≤ largest_image
-      by Accepted v s e =
+      by : (v : Verdict) → verdict_of level held ≡ v → (s : ℕ) → answered (verdict_of level held) n ≡ Ok s → s ≤ largest_image
+      by (Ok tt) v s e =
           let same : n ≡ s = cc (rw v at e) in
           omega (arith, accepted_small level held v, held_size)
-      by (NotAccepted r) v s e = let z : ◌≡◌ {A = ℕ} 0 1 = cc (rw v at e) in absurd (omega arith)
+      by (Err r) v s e = let z : ◌≡◌ {A = ℕ} 0 1 = cc (rw v at e) in absurd (omega arith)
 
   -- the rest of the buffer stays as it is
   pub kept_panel : (to : ℕ) (p : Panel) → p ≡ answer_panel to answer → standing p after ≡ image_judged (verdict_of level held) to held before
   kept_panel to p e = by (verdict_of level held) refl
     where
       by : (v : Verdict) → verdict_of level held ≡ v → standing p after ≡ image_judged (verdict_of level held) to held before
-      by Accepted v = rw (e, answer_held, v, k.holds, judged_held, v, held_size)
-      by (NotAccepted r) v = rw (e, answer_held, v, k.holds, judged_held, v) (ap (standing _) (cleared_zeros before))
+      by (Ok tt) v = rw (e, answer_held, v, k.holds, judged_held, v, held_size)
+      by (Err r) v = rw (e, answer_held, v, k.holds, judged_held, v) (ap (standing _) (cleared_zeros before))
 
   -- or is cleared
   module _ (settled : Filled) (after' : List ℕ) (s : Settled answer after settled after') where
@@ -124,12 +101,12 @@ module _ (level size : ℕ) (before after : List ℕ) (answer : Filled) (n : ℕ
     powered from p t e = rw (← t) (by (verdict_of level held) refl)
       where
         by : (v : Verdict) → verdict_of level held ≡ v → standing p after' ≡ ended level (length before) (checked (verdict_of level held) held)
-        by Accepted v =
+        by (Ok tt) v =
             rw (e, s.same, s.cleared, answer_held, v, k.holds, judged_held, v, held_size)
-            (ap (λ (l : List ℕ). standing (answer_panel level (Length n)) (l ++ replicate (length before - n) 0)) judged_held)
-        by (NotAccepted r) v =
+            (ap (λ (l : List ℕ). standing (answer_panel level (Ok n)) (l ++ replicate (length before - n) 0)) judged_held)
+        by (Err r) v =
             rw (e, s.same, s.cleared, answer_held, v, k.holds, judged_held, v)
-            (ap (standing (answer_panel level (Refused r))) (cleared_twice before))
+            (ap (standing (answer_panel level (Err r))) (cleared_twice before))
 
 -- ---- a whole text
 
@@ -138,7 +115,7 @@ module _ (text before after : List ℕ) (answer : Filled) (panel : Panel) (f : F
   unfolding load_text
   load_small = record { small = λ s e. by (read_text (length before) text) s (result_of _ before after answer f s e) (sym e ∙ f.answers) }
     where
-      by : (o : Outcome) (s : ℕ) → judged panel.level o ≡ result (take s after) → Length s ≡ answer_to (judged panel.level o) → s ≤ largest_image
+      by : (o : Outcome) (s : ℕ) → judged panel.level o ≡ result (take s after) → Ok s ≡ answer_to (judged panel.level o) → s ≤ largest_image
       by (result image) s r e =
           let c = checked_result (verdict_of panel.level image) image (take s after) r in
           let size : s ≡ length image = cc (rw c.0 at e) in
@@ -152,17 +129,10 @@ module _ (text before after : List ℕ) (answer : Filled) (panel : Panel) (f : F
 
 -- ---- a text by lines
 
-pub stopped_is : (panel : Panel) (number lines : ℕ) → lines ≡ next_line panel
-    → record { lines_or_detail = lines; size_or_number = number; level = panel.level; stage = 0; first = 0 } ≡ stopped_panel number panel
-stopped_is panel number lines e = rw e
-
 module _ (panel : Panel) (before : List ℕ) where
   pub begun : (after : List ℕ) → after ≡ cleared_from 0 before → standing (under_way panel.level 0 0 0) after ≡ text_begun (standing panel before)
   unfolding text_begun
   begun after e = rw (e, cleared_zeros before)
-
-  pub stops : (p : Panel) (after : List ℕ) → p ≡ stopped_panel 1 panel → after ≡ cleared_from 0 before → standing p after ≡ stopped_by 1 (standing panel before)
-  stops p after e c = rw (e, c, cleared_zeros before)
 
 -- data taken
 
@@ -178,17 +148,6 @@ grown panel count buffer =
     let at = size_of panel in
     standing (under_way panel.level (next_line panel) (at + count) (first_kept at buffer panel.first)) (first_withheld at buffer)
 
-module _ (panel : Panel) (count : ℕ) (buffer : List ℕ) (lines size : ℕ) (e : lines ≡ next_line panel) (s : size ≡ size_of panel + count) where
-  pub grown_first : size_of panel ≡ 0
-      → standing (record { lines_or_detail = lines; size_or_number = size; level = panel.level; stage = at_line; first = slice_index buffer 0 }) (slice_set buffer 0 0)
-      ≡ grown panel count buffer
-  grown_first z = rw (e, s, eq-eqb (size_of panel) 0 z)
-
-  pub grown_more : (size_of panel ≢ 0)
-      → standing (record { lines_or_detail = lines; size_or_number = size; level = panel.level; stage = at_line; first = panel.first }) buffer
-      ≡ grown panel count buffer
-  grown_more z = rw (e, s, ne_eqb (size_of panel) 0 z)
-
 -- by the record of a line
 
 -- a data record has data, and they fit
@@ -197,7 +156,7 @@ pub record DataFits (room at : ℕ) (line : List ℕ) (n : ℕ) : Type 0 where
   pub fits : at + n ≤ room
   pub all : length (line_data line) ≡ n
 
-pub data_fits : (room at : ℕ) (line : List ℕ) (n : ℕ) → line_record room at line ≡ Data n → DataFits room at line n
+pub data_fits : (room at : ℕ) (line : List ℕ) (n : ℕ) → line_record room at line ≡ Ok (Data n) → DataFits room at line n
 unfolding line_record
 data_fits room at line n e =
     decide (slice_index line (length line - 1) == 10)
@@ -212,22 +171,22 @@ first_pasted buffer [] n h e = absurd (omega arith)
 first_pasted buffer (b ∷ bytes) zero h e = absurd (omega arith)
 first_pasted buffer (b ∷ bytes) (suc n) h e = refl
 
-module _ (panel : Panel) (line before after : List ℕ) (r : Record) (t : TakesLine line (size_of panel) before r after) where
+module _ (panel : Panel) (line before after : List ℕ) (r : LineRecord) (t : TakesLine line (size_of panel) before r after) where
   abbrev room : ℕ
   room = min largest_image (length before)
 
-  taken_is : (judged : Record) → r ≡ judged → line_record room (size_of panel) line ≡ judged
+  taken_is : (judged : LineRecord) → r ≡ judged → line_record room (size_of panel) line ≡ judged
   taken_is judged e = sym t.answers ∙ e
 
-  pub taken_room : (n : ℕ) → r ≡ Data n → length after ≡ length before → HasRoom panel n after
+  pub taken_room : (n : ℕ) → r ≡ Ok (Data n) → length after ≡ length before → HasRoom panel n after
   taken_room n e same =
-      let f = data_fits room (size_of panel) line n (taken_is (Data n) e) in
+      let f = data_fits room (size_of panel) line n (taken_is (Ok (Data n)) e) in
       record { some = f.some; fits = omega (arith, f.fits); inside = omega (arith, f.fits) }
 
-  pub taken_data : (n : ℕ) (s : Standing) → r ≡ Data n → s ≡ grown panel n after → s ≡ next_taken line (standing panel before)
+  pub taken_data : (n : ℕ) (s : Standing) → r ≡ Ok (Data n) → s ≡ grown panel n after → s ≡ next_taken line (standing panel before)
   unfolding next_taken
   taken_data n s e g =
-      let d = taken_is (Data n) e in
+      let d = taken_is (Ok (Data n)) e in
       let f = data_fits room (size_of panel) line n d in
       let held : after ≡ paste before (size_of panel) (line_data line) n = rw d at t.holds in
       g ∙ rw (d, held) (by (size_of panel) f)
@@ -242,16 +201,16 @@ module _ (panel : Panel) (line before after : List ℕ) (r : Record) (t : TakesL
           (λ (q : nat_eq at 0 ≡ true). let z = eqb-true at 0 q in rw (z, first_pasted before (line_data line) n f.some f.all))
           (λ (q : nat_eq at 0 ≡ false). rw q)
 
-  pub taken_end : (lines : ℕ) → r ≡ End → lines ≡ next_line panel
+  pub taken_end : (lines : ℕ) → r ≡ Ok End → lines ≡ next_line panel
       → standing (record { lines_or_detail = lines; size_or_number = size_of panel; level = panel.level; stage = at_end_record; first = panel.first }) after
       ≡ next_taken line (standing panel before)
   unfolding next_taken
-  taken_end lines e n = let d = taken_is End e in let held : after ≡ before = rw d at t.holds in rw (n, d, held)
+  taken_end lines e n = let d = taken_is (Ok End) e in let held : after ≡ before = rw d at t.holds in rw (n, d, held)
 
-  pub taken_fault : (number : ℕ) (p : Panel) → r ≡ Fault number → p ≡ stopped_panel number panel → standing p after ≡ next_taken line (standing panel before)
+  pub taken_fault : (number : ℕ) (p : Panel) → r ≡ Err number → p ≡ stopped_panel number panel → standing p after ≡ next_taken line (standing panel before)
   unfolding next_taken
   taken_fault number p e n =
-      let d = taken_is (Fault number) e in
+      let d = taken_is (Err number) e in
       let held : after ≡ replicate (length before) 0 = rw d at t.holds in
       rw (n, d, held)
 
@@ -286,9 +245,6 @@ module _ (panel : Panel) (line before : List ℕ) where
     end_none = rw (ne_eqb panel.stage at_line n, ne_eqb panel.stage at_end_record m)
 
 -- the image of a whole text
-
-pub first_nowhere : (buffer : List ℕ) (first : ℕ) → length buffer ≡ 0 → buffer ≡ slice_set buffer 0 first
-first_nowhere buffer first e = sym (set_out buffer 0 first (omega arith))
 
 module _ (panel : Panel) (before put after : List ℕ) (answer : Filled) (n : ℕ) (e : put ≡ slice_set before 0 panel.first) (m : n ≡ min (size_of panel) (length put))
     (k : Keeps panel.level n put answer after) where

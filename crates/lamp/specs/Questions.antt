@@ -2,8 +2,8 @@
 use Rattle.std.specs.Prelude.{cond, ◌==◌}
 use Rattle.refusals.specs.Refusals.{refusal}
 use Rattle.reading.specs.declared.Counts.{Counts}
-use Rattle.reading.specs.declared.Answer.{Answer}
-use Rattle.panel.specs.declared.identities.Identified.{Identified}
+use Rattle.reading.specs.Answers.{Answer}
+use Rattle.panel.specs.Answers.{Identified}
 use Rattle.panel.specs.Identified.{identified_by}
 use Rattle.panel.specs.Reading.{reading_of}
 use Rattle.lamp.specs.declared.Panel.{Panel}

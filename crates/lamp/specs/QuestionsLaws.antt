@@ -1,36 +1,11 @@
 -- What a panel is asked: a law for each way out.
-use Rattle.std.specs.Prelude.{◌≡◌, ℕ, Bool, true, false, List, take, ◌≢◌}
-use Rattle.std.proofs.Common.{ap, ◌∙◌}
+use Rattle.std.specs.Prelude.{◌≡◌, ◌≢◌}
 use borrow.Author.Tests.{eq-eqb, ne_eqb}
-use Rattle.std.specs.Borrow.{Bor}
-use Rattle.numbers.specs.Slices.{IsPart}
 use Rattle.refusals.specs.Refusals.{refusal}
-use Rattle.reading.specs.declared.Counts.{Counts}
-use Rattle.reading.specs.declared.Answer.{Answer}
-use Rattle.panel.specs.declared.identities.Identified.{Identified}
-use Rattle.panel.specs.Identified.{identified_by}
-use Rattle.panel.specs.Reading.{reading_of}
 use Rattle.lamp.specs.declared.Panel.{Panel}
 use Rattle.lamp.specs.declared.questions.LoadState.TheVariants.{UnderWay, Accepted, Refused}
-use Rattle.lamp.specs.Panel.{at_line, at_end_record, at_image, size_of, is_lit, size_held, standing}
-use Rattle.lamp.specs.Questions.{load_state, reading_shown, gauge_told}
-
-module _ (panel : Panel) (lit : Bool) (e : lit ≡ is_lit panel) where
-  pub size_lit : lit ≡ true → size_of panel ≡ size_held panel
-  size_lit t = rw (← e, t)
-
-  pub size_unlit : lit ≡ false → 0 ≡ size_held panel
-  size_unlit t = rw (← e, t)
-
-module _ (panel : Panel) (image part : Bor (List ℕ)) (size : ℕ) (e : size ≡ size_held panel) (p : IsPart image part 0 size) where
-  held : part.now ≡ take (size_held panel) image.now
-  held = p.holds ∙ rw e
-
-  pub reading_shown_lem : (counts : Counts) (r : Answer) → r ≡ reading_of panel.level part.now counts → r ≡ reading_shown (standing panel image.now) counts
-  reading_shown_lem counts r f = f ∙ ap (λ (l : List ℕ). reading_of panel.level l counts) held
-
-  pub gauge_told_lem : (r : Identified) → r ≡ identified_by panel.level part.now → r ≡ gauge_told (standing panel image.now)
-  gauge_told_lem r f = f ∙ ap (identified_by panel.level) held
+use Rattle.lamp.specs.Panel.{at_line, at_end_record, at_image, size_of}
+use Rattle.lamp.specs.Questions.{load_state}
 
 -- ---- how the last load stands
 

@@ -30,55 +30,46 @@ pub struct GaugeForC {
     pub day: u8,
 }
 
-pub fn status_for_c(panel: Panel) -> StatusForC
-    ensures { result ≡ status_for_c panel }
-{
-    let lamp = is_lit(panel);
-    let state = load_state(panel);
-    match state {
-        LoadState::UnderWay => StatusForC {
-            number: 0,
-            detail: 0,
-            length: 0,
-            lamp,
-            level: panel.level,
-        },
-        LoadState::Accepted(length) => StatusForC {
-            number: 0,
-            detail: 0,
+impl From<Panel> for StatusForC {
+    ghost from_gives = { λ panel for_c. for_c ≡ status_for_c panel };
+
+    fn from(panel: Panel) -> StatusForC {
+        let (number, detail, length) = match load_state(panel) {
+            LoadState::UnderWay => (0, 0, 0),
+            LoadState::Accepted(length) => (0, 0, length),
+            LoadState::Refused(refusal) => (refusal.number, refusal.detail, 0),
+        };
+        StatusForC {
+            number,
+            detail,
             length,
-            lamp,
+            lamp: is_lit(panel),
             level: panel.level,
-        },
-        LoadState::Refused(refusal) => StatusForC {
-            number: refusal.number,
-            detail: refusal.detail,
-            length: 0,
-            lamp,
-            level: panel.level,
-        },
+        }
     }
 }
 
-pub fn gauge_for_c(gauge: Identified) -> GaugeForC
-    ensures { result ≡ gauge_for_c gauge }
-{
-    match gauge {
-        Identified::Known(identity) => GaugeForC {
-            number: 0,
-            detail: 0,
-            serial: identity.serial,
-            year: identity.year,
-            month: identity.month,
-            day: identity.day,
-        },
-        Identified::Refused(refusal) => GaugeForC {
-            number: refusal.number,
-            detail: refusal.detail,
-            serial: 0,
-            year: 0,
-            month: 0,
-            day: 0,
-        },
+impl From<Identified> for GaugeForC {
+    ghost from_gives = { λ gauge for_c. for_c ≡ gauge_for_c gauge };
+
+    fn from(gauge: Identified) -> GaugeForC {
+        match gauge {
+            Ok(identity) => GaugeForC {
+                number: 0,
+                detail: 0,
+                serial: identity.serial,
+                year: identity.year,
+                month: identity.month,
+                day: identity.day,
+            },
+            Err(refusal) => GaugeForC {
+                number: refusal.number,
+                detail: refusal.detail,
+                serial: 0,
+                year: 0,
+                month: 0,
+                day: 0,
+            },
+        }
     }
 }

@@ -28,4 +28,4 @@ pub use questions::{LoadState, gauge, is_lit, load_state, reading};
 // Answers as C gets them.
 mod for_c;
 
-pub use for_c::{GaugeForC, StatusForC, gauge_for_c, status_for_c};
+pub use for_c::{GaugeForC, StatusForC};

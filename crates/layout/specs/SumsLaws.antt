@@ -1,5 +1,5 @@
 -- One law for each way out of the check of sums and of the whole layout.
-use Rattle.std.specs.Prelude.{List, ◌≡◌, ℕ, ◌+◌, ◌-◌, ◌%◌, ◌≤◌, ◌<◌, length, take, drop}
+use Rattle.std.specs.Prelude.{List, ◌≡◌, ℕ, ◌+◌, ◌-◌, ◌%◌, ◌≤◌, ◌<◌, length, take, drop, Err, Ok}
 use Rattle.std.proofs.Math.Path.{sym}
 use Rattle.std.proofs.Common.{◌∙◌, add-zero, arith}
 use Rattle.std.proofs.Math.Nat.{sub-zero}
@@ -7,8 +7,7 @@ use borrow.Author.Tests.{eq-eqb, ne_eqb}
 use Rattle.laws.specs.Loops.{one_left, none_left}
 use Rattle.laws.specs.Sums.{total}
 use Rattle.refusals.specs.declared.Refusal.{Refusal}
-use Rattle.refusals.specs.declared.Verdict.{Verdict}
-use Rattle.refusals.specs.declared.Verdict.TheVariants.{Accepted, Refused}
+use Rattle.refusals.specs.Answers.{Verdict}
 use Rattle.refusals.specs.Refusals.{refusal}
 use Rattle.image.specs.Contents.{line_count, line_place, kind_at, offset_at, length_at, sum_at, lines_verdict, contents_verdict}
 use Rattle.image.specs.Layout.{body_at, sums_verdict, all_sums, layout_verdict}
@@ -21,11 +20,11 @@ use Rattle.contents.specs.LinesLaws.{whole_line}
 pub record SumsRightBefore (image : List ℕ) (count i offset : ℕ) : Type 0 where
   pub rest : sums_verdict image (count - i) i ≡ all_sums image
   pub previous : ℕ
-  pub right : lines_verdict (length image) image (count - i) i previous offset ≡ Accepted
+  pub right : lines_verdict (length image) image (count - i) i previous offset ≡ Ok tt
   pub room : line_place count ≤ length image
   pub within : offset ≤ length image
 
-module _ (image : List ℕ) (count : ℕ) (good : contents_verdict (length image) image ≡ Accepted) (c : count ≡ line_count image) where
+module _ (image : List ℕ) (count : ℕ) (good : contents_verdict (length image) image ≡ Ok tt) (c : count ≡ line_count image) where
   pub lines_few : count ≤ 16
   lines_few = omega (arith, (contents_passed (length image) image good).counted.few)
 
@@ -65,7 +64,7 @@ module _ (image : List ℕ) (count i offset : ℕ) (j : SumsRightBefore image co
           let size : line.length ≡ length_at image i = rw line_is in
           s ∙ rw (b, long, size, starts)
 
-      pub sums_stop : (sum ≡ line.sum → ⊥) → (r : Verdict) → r ≡ Refused (refusal 8 i) → r ≡ all_sums image
+      pub sums_stop : (sum ≡ line.sum → ⊥) → (r : Verdict) → r ≡ Err (refusal 8 i) → r ≡ all_sums image
       unfolding sums_verdict
       sums_stop n r e =
           let wrong = ne_eqb (total (body_at image i) % 65536) (sum_at image i) (λ q. n (sum_is ∙ q ∙ sym (rw line_is))) in
@@ -83,20 +82,22 @@ module _ (image : List ℕ) (count i offset : ℕ) (j : SumsRightBefore image co
             within = body_there;
           }
 
-pub sums_end : (image : List ℕ) (count i offset : ℕ) → SumsRightBefore image count i offset → count ≤ i → Accepted ≡ all_sums image
+pub sums_end : (image : List ℕ) (count i offset : ℕ) → SumsRightBefore image count i offset → count ≤ i → Ok tt ≡ all_sums image
 unfolding sums_verdict
 sums_end image count i offset j end = rw (none_left count i end) at j.rest
 
 -- ---- the contents, then the sums
 
 module _ (image : List ℕ) (judged : Verdict) (c : judged ≡ contents_verdict (length image) image) where
-  pub contents_decide : (q : Refusal) → judged ≡ Refused q → judged ≡ layout_verdict image
+  pub contents_decide : (q : Refusal) → judged ≡ Err q → judged ≡ layout_verdict image
   unfolding layout_verdict
   contents_decide q e = rw (← c, e)
 
-  pub contents_good : judged ≡ Accepted → contents_verdict (length image) image ≡ Accepted
+  pub contents_good : judged ≡ Ok tt → contents_verdict (length image) image ≡ Ok tt
   contents_good e = sym c ∙ e
 
-  pub sums_decide : judged ≡ Accepted → (sums : Verdict) → sums ≡ all_sums image → sums ≡ layout_verdict image
+  pub sums_decide : judged ≡ Ok tt → (sums : Verdict) → sums ≡ all_sums image → sums ≡ layout_verdict image
   unfolding layout_verdict
   sums_decide e sums s = rw (← c, e) s
+
+pub ruleset loop_laws = (lines_few, sums_first, line_there, sums_more)

@@ -1,20 +1,20 @@
 -- Laws of numbers among bytes: a number of two halves, a byte, nothing past the end, a number of its own bytes, a bound, a sign.
-use Rattle.std.specs.Prelude.{◌≡◌, ℕ, zero, suc, ◌+◌, ◌-◌, ◌*◌, ◌^◌, ◌<◌, ◌≤◌, List, [], ◌∷◌, length, take, drop, ℤ, negsuc, ◌-ℤ◌, FitsSigned, slice_index, refl}
-use Rattle.std.proofs.Common.{sym, ◌∙◌, mul_assoc, mul_comm, pow-suc, zero-add, drop_of_length-le, drop-cons, drop-drop, take-take}
+use Rattle.std.specs.Prelude.{◌≡◌, ℕ, zero, suc, ◌+◌, ◌-◌, ◌*◌, ◌^◌, ◌<◌, ◌≤◌, cond, nat_lt, List, [], ◌∷◌, ◌++◌, length, take, drop, replicate, min, ℤ, pos, negsuc, ◌-ℤ◌, slice_index, refl}
+use Rattle.std.proofs.Common.{sym, ◌∙◌, mul_assoc, mul_comm, pow-suc, zero-add, drop_of_length-le, drop-cons, drop-drop, take-take, take_all, length-drop}
+use Rattle.std.proofs.lemmas.List.{take-append-le, take-replicate, drop-replicate}
 use Rattle.std.proofs.Math.Nat.{one-le-pow}
 use native.Mathlib.Omega.{arith}
 use borrow.Author.Tests.{lt-ltb, le-ltb}
-use Rattle.std.specs.Int.Signed.{mag}
 use Rattle.std.proofs.Math.ListN.{get_or-eq_default}
-use Rattle.std.proofs.Math.Seq.{take-nil}
+use Rattle.std.proofs.Math.Seq.{take-nil, take-append-add}
 use Rattle.std.specs.Int.{Width, w8, w16, w32, w64, w128}
-use mir.Val.{bits, hbits, to_z, of_z}
-use Rattle.std.proofs.Math.Facts.{to_z_pos}
+use Rattle.std.specs.Int.{byte_worth, sum_through}
+use mir.Val.{bits, hbits, to_z}
+use Rattle.std.proofs.Math.Facts.{to_z_pos, to_z-neg}
 use Rattle.laws.specs.Bytes.{Bytes}
 use Rattle.laws.specs.BytesLaws.{bytes_drop}
 use Rattle.laws.specs.Cases.{split}
 use Rattle.laws.specs.Magnitude.{natural_difference, difference_lt}
-use Rattle.laws.specs.SignedBits.{read_as, Exact, exact, past_minus_one}
 use Rattle.numbers.specs.Fields.{little_endian, number_at, twos_complement, signed_at}
 
 -- w bytes and then v more: the low part, and the high part after it
@@ -39,16 +39,6 @@ number_of_byte l place h = rw (drop-cons l place 0 h) (omega arith)
 pub number_past_end : (w : ℕ) (l : List ℕ) (place : ℕ) → length l ≤ place → 0 ≡ number_at w l place
 unfolding number_at little_endian
 number_past_end w l place h = rw (drop_of_length-le l h, take-nil w)
-
--- of two bytes, the second past the end
-number_of_last : (l : List ℕ) (place : ℕ) {low : ℕ} → low ≡ number_at 1 l place → length l ≤ place + 1 → low ≡ number_at 2 l place
-number_of_last l place e h = let both = number_of_halves 1 1 l place e (number_past_end 1 l (place + 1) h) in omega arith
-
-pub number_of_short : (l : List ℕ) (place : ℕ) {low : ℕ} → low ≡ number_at 1 l place → length l < 2 → low ≡ number_at 2 l place
-number_of_short l place e h = number_of_last l place e (omega arith)
-
-pub number_at_end : (l : List ℕ) (place : ℕ) {low : ℕ} → low ≡ number_at 1 l place → length l - 2 < place → low ≡ number_at 2 l place
-number_at_end l place e h = number_of_last l place e (omega arith)
 
 -- seen from a place before it
 pub number_from : (w : ℕ) (l : List ℕ) (from place : ℕ) → number_at w (drop from l) place ≡ number_at w l (from + place)
@@ -122,6 +112,56 @@ pub number_small : (w : ℕ) (l : List ℕ) (place : ℕ) → Bytes l → number
 unfolding number_at
 number_small w l place h = spelled_small w (drop place l) (bytes_drop place l h)
 
+-- ---- a number from an array of its bytes, as std reads one
+
+-- an array of w bytes: those of the rest, and zeros where it has fewer
+pub all_there : (w : ℕ) (rest : List ℕ) → w ≤ length rest → take w rest ≡ take w (rest ++ replicate w 0)
+all_there w rest h = sym (take-append-le w rest (replicate w 0) h)
+
+pub zeros_after : (w : ℕ) (rest : List ℕ) → length rest < w → rest ++ drop (length rest) (replicate w 0) ≡ take w (rest ++ replicate w 0)
+zeros_after w rest h =
+    let e : w ≡ length rest + (w - length rest) = omega arith in
+    let zeros : take {A = ℕ} (w - length rest) (replicate w 0) ≡ drop (length rest) (replicate w 0) =
+    take-replicate (w - length rest) w 0 (omega arith) ∙ sym (drop-replicate (length rest) w 0) in
+    rw (← zeros) (sym (rw (← e) at (take-append-add rest (replicate w 0) (w - length rest))))
+
+pub rest_from : (place k : ℕ) (l : List ℕ) → k ≡ min place (length l) → take (length l - k) (drop k l) ≡ drop place l
+rest_from place k l e = take_all (length l - k) (drop k l) (omega (arith, length-drop k l)) ∙ same
+  where
+    same : drop k l ≡ drop place l
+    same =
+        split place (length l)
+        (λ (h : place ≤ length l). let f : k ≡ place = omega arith in rw f refl)
+        (λ (h : length l < place). let f : length l ≤ k = omega arith in drop_of_length-le l f ∙ sym (drop_of_length-le l (omega arith)))
+
+zeros_spell_nothing : (w m : ℕ) → little_endian (take w (replicate m 0)) ≡ 0
+unfolding little_endian
+zeros_spell_nothing zero m = refl
+zeros_spell_nothing (suc w) zero = refl
+zeros_spell_nothing (suc w) (suc m) = rw (zeros_spell_nothing w m) refl
+
+padded : (w m : ℕ) (l : List ℕ) → little_endian (take w (l ++ replicate m 0)) ≡ little_endian (take w l)
+unfolding little_endian
+padded zero m l = refl
+padded (suc w) m [] = zeros_spell_nothing (suc w) m
+padded (suc w) m (b ∷ l) = rw (padded w m l) refl
+
+spelled_through : (k : ℕ) (l : List ℕ) → sum_through (λ i. byte_worth i (slice_index l i)) k ≡ number_at (suc k) l 0
+spelled_through zero l = sym (byte_at_lem l 0)
+spelled_through (suc k) l =
+    let e : suc (suc k) ≡ suc k + 1 = omega arith in
+    let f : 0 + suc k ≡ suc k = omega arith in
+    rw (e, mul_comm (slice_index l (suc k)) (256 ^ suc k)) (number_of_halves (suc k) 1 l 0 (spelled_through k l) (rw f (sym (byte_at_lem l (suc k)))))
+
+-- r is read from b, an array of the k + 1 bytes from a place on, with zeros past the end
+module _ (k : ℕ) (l b : List ℕ) (place r : ℕ) (there : b ≡ take (suc k) (drop place l ++ replicate (suc k) 0)) where
+  spelled_there : number_at (suc k) b 0 ≡ number_at (suc k) l place
+  unfolding number_at
+  spelled_there = rw (there, take-take (suc k) (suc k) (drop place l ++ replicate (suc k) 0) (omega arith)) (padded (suc k) (suc k) (drop place l))
+
+  pub number_read : r ≡ sum_through (λ i. byte_worth i (slice_index b i)) k → r ≡ number_at (suc k) l place
+  number_read e = e ∙ spelled_through k b ∙ spelled_there
+
 -- ---- the sign, at a width
 
 both_halves : (w : Width) → 2 * 2 ^ hbits w ≡ 2 ^ bits w
@@ -131,30 +171,20 @@ both_halves w32 = refl
 both_halves w64 = refl
 both_halves w128 = refl
 
--- a pattern of the lower half is itself
-pub signed_low : (w : Width) {x y : ℕ} → x ≡ y → x < 2 ^ hbits w → to_z w x ≡ twos_complement (2 ^ bits w) y
+pub signed_read : (w : Width) (n : ℕ) → n < 2 ^ bits w → to_z w n ≡ twos_complement (2 ^ bits w) n
 unfolding twos_complement
-signed_low w {x} {y} e h = let b = both_halves w in rw (to_z_pos w h, ← e, lt-ltb (2 * x) (2 ^ bits w) (omega arith))
+signed_read w n h =
+    let b = both_halves w in
+    split (2 ^ hbits w) n
+    (λ (k : 2 ^ hbits w ≤ n). high k)
+    (λ (k : n < 2 ^ hbits w). rw (to_z_pos w k, lt-ltb (2 * n) (2 ^ bits w) (omega arith)))
+  where
+    high : 2 ^ hbits w ≤ n → to_z w n ≡ cond (nat_lt (2 * n) (2 ^ bits w)) (pos n) (pos n -ℤ pos (2 ^ bits w))
+    high k =
+        let b = both_halves w in
+        let e : n ≡ 2 ^ bits w - suc (2 ^ bits w - suc n) = omega arith in
+        let below : to_z w (2 ^ bits w - suc (2 ^ bits w - suc n)) ≡ negsuc (2 ^ bits w - suc n) = to_z-neg w (2 ^ bits w - suc n) (omega arith) in
+        rw (le-ltb (2 * n) (2 ^ bits w) (omega arith), natural_difference n (2 ^ bits w), difference_lt n (2 ^ bits w) h) (rw (← e) at below)
 
--- one of the upper half is -1 less what it lacks to the last pattern
-module _ (w : Width) (x : ℕ) (h : 2 ^ hbits w ≤ x) (k : x < 2 ^ bits w) where
-  lacks_little : 2 ^ bits w - 1 - x < 2 ^ hbits w
-  lacks_little = omega (arith, both_halves w)
-
-  below_zero : Exact w (negsuc 0 -ℤ to_z w (2 ^ bits w - 1 - x)) (negsuc (2 ^ bits w - 1 - x))
-  below_zero = exact w (rw (to_z_pos w lacks_little) (past_minus_one (2 ^ bits w - 1 - x))) (record { sfits = lacks_little })
-
-  pub signed_high_fits : FitsSigned w (negsuc 0 -ℤ to_z w (2 ^ bits w - 1 - x))
-  signed_high_fits = below_zero.fits
-
-  pub signed_high : {y : ℕ} → x ≡ y → to_z w (of_z w (negsuc 0 -ℤ to_z w (2 ^ bits w - 1 - x))) ≡ twos_complement (2 ^ bits w) y
-  unfolding twos_complement
-  signed_high {y} e =
-      let b = both_halves w in
-      let f : 2 ^ bits w - 1 - x ≡ 2 ^ bits w - suc x = omega arith in
-      below_zero.back
-      ∙ rw (← e, le-ltb (2 * x) (2 ^ bits w) (omega arith), natural_difference x (2 ^ bits w), difference_lt x (2 ^ bits w) k, f)
-
--- a sign that the code asked for of the pattern x
-pub signed_of_pattern : (w : Width) (all x y : ℕ) (z : ℤ) → mag z < 2 ^ hbits w → z ≡ twos_complement all x → x ≡ y → to_z w (of_z w z) ≡ twos_complement all y
-signed_of_pattern w all x y z h e f = read_as w z _ h (rw f at e)
+pub signed_at_read : (w : Width) (n m : ℕ) (z : ℤ) → z ≡ to_z w n → n < 2 ^ bits w → n ≡ m → z ≡ twos_complement (2 ^ bits w) m
+signed_at_read w n m z e h f = e ∙ signed_read w n h ∙ rw f refl

@@ -1,5 +1,5 @@
 -- The bodies judged in one walk over the sections: where kinds rise, it comes to the bodies of the kinds in their order.
-use Rattle.std.specs.Prelude.{◌≡◌, true, false, cond, ℕ, ◌≤◌, ◌<◌}
+use Rattle.std.specs.Prelude.{◌≡◌, true, false, cond, ℕ, ◌≤◌, ◌<◌, Ok}
 use Rattle.std.proofs.Math.Path.{refl, sym}
 use Rattle.std.proofs.Common.{ap, ◌∙◌, arith}
 use mathlib.Core.List.{List, [], ◌∷◌}
@@ -7,8 +7,7 @@ use Rattle.std.proofs.Math.Option.{none, some}
 use borrow.Author.Tests.{eqb-true, eq-eqb, ne_eqb}
 use Rattle.std.proofs.Math.Dec.{eqb}
 use Rattle.laws.specs.Cases.{split, decide, never}
-use Rattle.refusals.specs.declared.Verdict.{Verdict}
-use Rattle.refusals.specs.declared.Verdict.TheVariants.{Accepted}
+use Rattle.refusals.specs.Answers.{Verdict}
 use Rattle.refusals.specs.Refusals.{and_then}
 use Rattle.image.specs.Contents.{kind_at}
 use Rattle.image.specs.Layout.{body_at}
@@ -20,15 +19,15 @@ use Rattle.panel.specs.Verdict.{kind_verdict, kinds_verdict, bodies_verdict}
 
 -- a body, where its kind is among these
 abbrev among_verdict : (kinds : List ℕ) → (kind : ℕ) → (body : List ℕ) → Verdict
-among_verdict kinds kind body = cond (is_among kind kinds) (kind_verdict kind body) Accepted
+among_verdict kinds kind body = cond (is_among kind kinds) (kind_verdict kind body) (Ok tt)
 
 -- the body of a line, where the level knows its kind
 abbrev pub line_verdict : (level : ℕ) → (image : List ℕ) → (line : ℕ) → Verdict
-line_verdict level image line = cond (knows level (kind_at image line)) (kind_verdict (kind_at image line) (body_at image line)) Accepted
+line_verdict level image line = cond (knows level (kind_at image line)) (kind_verdict (kind_at image line) (body_at image line)) (Ok tt)
 
 -- section by section
 unfoldable pub section_by_section : (kinds : List ℕ) → List Section → Verdict
-section_by_section kinds [] = Accepted
+section_by_section kinds [] = Ok tt
 section_by_section kinds (s ∷ ss) = and_then (among_verdict kinds s.kind s.body) (section_by_section kinds ss)
 
 -- kinds strictly rise above `previous`
@@ -78,7 +77,7 @@ module _ (s : Section) (ss : List Section) where
       let none = not_among s.kind s.kind (k ∷ kinds) (h, rise.1) (omega arith) in
       rw (none) (kinds_later s.kind (k ∷ kinds) (h, rise.1) (omega arith)))
 
-kinds_absent : (kinds : List ℕ) → kinds_verdict kinds [] ≡ Accepted
+kinds_absent : (kinds : List ℕ) → kinds_verdict kinds [] ≡ Ok tt
 unfolding kinds_verdict body_of
 kinds_absent [] = refl
 kinds_absent (k ∷ kinds) = kinds_absent kinds

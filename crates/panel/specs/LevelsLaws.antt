@@ -1,64 +1,60 @@
--- A law for each return of the tests of a level and a kind.
-use Rattle.std.specs.Prelude.{◌≡◌, Bool, ◌||◌, ℕ, leb, eqb}
-use Rattle.std.proofs.Math.Path.{refl}
-use Rattle.std.proofs.Common.{sym, ◌∙◌, true≢false}
-use Rattle.std.proofs.Math.Bool.{true, false, or-false}
-use Rattle.std.proofs.lemmas.Bool.{false≢true}
-use borrow.Author.Tests.{eq-eqb, ne_eqb}
-use Rattle.panel.specs.Levels.{knows, may_pass}
+-- A law for each row of the kinds that a level knows, and for a number that stands in none.
+use Rattle.std.specs.Prelude.{◌≡◌, refl, true, false, ℕ}
+use borrow.Author.Tests.{ne_eqb}
+use Rattle.panel.specs.declared.levels.Kind.TheVariants.{Identity, PressureSet, TemperatureSet, Trim, Note}
+use Rattle.panel.specs.declared.levels.Level.{Level}
+use Rattle.panel.specs.declared.levels.Level.TheVariants.{One, Two}
+use Rattle.panel.specs.Levels.{knows}
+use Rattle.panel.specs.Kinds.{level_number, IsKnown}
 
-module _ (kind : ℕ) where
-  pub kind_one : kind ≡ 1 → true ≡ knows 1 kind
+module _ (level : Level) (number : ℕ) where
+  pub known_identity : number ≡ 1 → IsKnown (level_number level) number Identity
   unfolding knows
-  kind_one e = rw (eq-eqb kind 1 e)
+  known_identity e = record { same = e; known = rw e (at level) }
+    where
+      at : (l : Level) → knows (level_number l) 1 ≡ true
+      at One = refl
+      at Two = refl
 
-  pub kind_two : (kind ≡ 1 → ⊥) → kind ≡ 2 → true ≡ knows 1 kind
+  pub known_pressure_set : number ≡ 2 → IsKnown (level_number level) number PressureSet
   unfolding knows
-  kind_two n e = rw (ne_eqb kind 1 n, eq-eqb kind 2 e)
+  known_pressure_set e = record { same = e; known = rw e (at level) }
+    where
+      at : (l : Level) → knows (level_number l) 2 ≡ true
+      at One = refl
+      at Two = refl
 
-  pub kind_three : (kind ≡ 1 → ⊥) → (kind ≡ 2 → ⊥) → eqb kind 3 ≡ knows 1 kind
+  pub known_temperature_set : number ≡ 3 → IsKnown (level_number level) number TemperatureSet
   unfolding knows
-  kind_three n m = rw (ne_eqb kind 1 n, ne_eqb kind 2 m) (sym (or-false (eqb kind 3)))
+  known_temperature_set e = record { same = e; known = rw e (at level) }
+    where
+      at : (l : Level) → knows (level_number l) 3 ≡ true
+      at One = refl
+      at Two = refl
 
-  module _ (level : ℕ) where
-    pub known_at_one : {b : Bool} → level ≡ 1 → b ≡ knows 1 kind → b ≡ knows level kind
-    known_at_one e f = rw e f
+  pub known_trim : level ≡ Two → number ≡ 4 → IsKnown (level_number level) number Trim
+  unfolding knows
+  known_trim l e = record { same = e; known = rw (l, e) }
 
-    module _ (n : level ≡ 1 → ⊥) where
-      pub known_nowhere : (level ≡ 2 → ⊥) → false ≡ knows level kind
-      unfolding knows
-      known_nowhere m = rw (ne_eqb level 1 n, ne_eqb level 2 m)
+  pub known_note : level ≡ Two → number ≡ 129 → IsKnown (level_number level) number Note
+  unfolding knows
+  known_note l e = record { same = e; known = rw (l, e) }
 
-      module _ (e : level ≡ 2) (b : Bool) (f : b ≡ knows 1 kind) where
-        pub known_first : b ≡ true → true ≡ knows level kind
-        unfolding knows
-        known_first t = rw e (among (eqb kind 1) (eqb kind 2) (eqb kind 3) (eqb kind 4 || (eqb kind 129 || false)) (sym t ∙ f))
-          where
-            among : (x y z w : Bool) → true ≡ (x || (y || (z || false))) → true ≡ (x || (y || (z || w)))
-            among true y z w h = refl
-            among false true z w h = refl
-            among false false true w h = refl
-            among false false false w h = absurd (true≢false h)
+  pub trim_not_known : level ≡ One → number ≡ 4 → knows (level_number level) number ≡ false
+  unfolding knows
+  trim_not_known l e = rw (l, e)
 
-        module _ (t : b ≡ false) where
-          none : knows 2 kind ≡ (eqb kind 4 || (eqb kind 129 || false))
-          unfolding knows
-          none = among (eqb kind 1) (eqb kind 2) (eqb kind 3) (eqb kind 4 || (eqb kind 129 || false)) (sym t ∙ f)
-            where
-              among : (x y z w : Bool) → false ≡ (x || (y || (z || false))) → (x || (y || (z || w))) ≡ w
-              among true y z w h = absurd (false≢true h)
-              among false true z w h = absurd (false≢true h)
-              among false false true w h = absurd (false≢true h)
-              among false false false w h = refl
+  pub note_not_known : level ≡ One → number ≡ 129 → knows (level_number level) number ≡ false
+  unfolding knows
+  note_not_known l e = rw (l, e)
 
-          pub known_trim : kind ≡ 4 → true ≡ knows level kind
-          known_trim k = rw (e, none, eq-eqb kind 4 k)
+  pub other_not_known : (number ≡ 1 → ⊥) → (number ≡ 2 → ⊥) → (number ≡ 3 → ⊥) → (number ≡ 4 → ⊥) → (number ≡ 129 → ⊥)
+      → knows (level_number level) number ≡ false
+  unfolding knows
+  other_not_known a b c d e = at level
+    where
+      at : (l : Level) → knows (level_number l) number ≡ false
+      at One = rw (ne_eqb number 1 a, ne_eqb number 2 b, ne_eqb number 3 c)
+      at Two = rw (ne_eqb number 1 a, ne_eqb number 2 b, ne_eqb number 3 c, ne_eqb number 4 d, ne_eqb number 129 e)
 
-          pub known_note : {r : Bool} → r ≡ eqb kind 129 → (kind ≡ 4 → ⊥) → r ≡ knows level kind
-          known_note h k = rw (e, none, ne_eqb kind 4 k) (h ∙ sym (or-false (eqb kind 129)))
-
-    pub passes_known : (b : Bool) → b ≡ knows level kind → b ≡ true → true ≡ may_pass level kind
-    passes_known b f t = rw (← f, t)
-
-    pub passes_high : (b : Bool) → b ≡ knows level kind → b ≡ false → leb 128 kind ≡ may_pass level kind
-    passes_high b f t = rw (← f, t)
+pub ruleset kinds_known = (known_identity, known_pressure_set, known_temperature_set, known_trim, known_note, trim_not_known, note_not_known, other_not_known)

@@ -1,5 +1,7 @@
+pub mod Answers
 pub mod Levels
 pub mod Verdict
+pub mod Kinds
 pub mod Reading
 pub mod Identified
 pub mod Load
@@ -8,6 +10,5 @@ pub mod GoodLayoutLaws
 pub mod BodiesLaws
 pub mod VerdictLaws
 pub mod ReadingLaws
-pub mod IdentifiedLaws
 pub mod LoadLaws
 pub mod Examples

@@ -1,10 +1,8 @@
 -- A load: a text read and judged.
-use Rattle.std.specs.Prelude.{List, ◌≡◌, ℕ, take}
+use Rattle.std.specs.Prelude.{List, ◌≡◌, ℕ, take, Err, Ok}
 use Rattle.numbers.specs.Slices.{cleared_from}
-use Rattle.refusals.specs.declared.Verdict.{Verdict}
-use Rattle.refusals.specs.declared.Verdict.TheVariants.{Accepted, Refused as NotAccepted}
-use Rattle.refusals.specs.declared.Filled.{Filled}
-use Rattle.refusals.specs.declared.Filled.TheVariants.{Length, Refused}
+use Rattle.refusals.specs.Answers.{Verdict}
+use Rattle.refusals.specs.Answers.{Filled}
 use Rattle.refusals.specs.Refusals.{Outcome, result, refused, checked}
 use Rattle.hextext.specs.Text.{read_text}
 use Rattle.panel.specs.Verdict.{verdict_of}
@@ -21,12 +19,12 @@ load_text level size text = judged level (read_text size text)
 
 -- what judging the image at a buffer's start answers, and what the buffer then holds
 abbrev pub answered : Verdict → (size : ℕ) → Filled
-answered Accepted size = Length size
-answered (NotAccepted r) size = Refused r
+answered (Ok tt) size = Ok size
+answered (Err r) size = Err r
 
 abbrev pub kept : Verdict → List ℕ → List ℕ
-kept Accepted buffer = buffer
-kept (NotAccepted r) buffer = cleared_from 0 buffer
+kept (Ok tt) buffer = buffer
+kept (Err r) buffer = cleared_from 0 buffer
 
 pub record Keeps (level size : ℕ) (before : List ℕ) (answer : Filled) (after : List ℕ) : Type 0 where
   pub answers : answer ≡ answered (verdict_of level (take size before)) size

@@ -1,40 +1,24 @@
 -- A law for each return of a load.
-use Rattle.std.specs.Prelude.{◌≡◌, length, drop}
+use Rattle.std.specs.Prelude.{◌≡◌, length, Err, Ok}
 use Rattle.std.proofs.Common.{sym, ◌∙◌}
 use mathlib.Core.List.{List}
 use Prim.Native.Nat.{ℕ}
 use Rattle.std.proofs.Math.Nat.{sub-zero}
 use Rattle.std.proofs.Math.ListN.{take}
 use Rattle.refusals.specs.declared.Refusal.{Refusal}
-use Rattle.refusals.specs.declared.Verdict.{Verdict}
-use Rattle.refusals.specs.declared.Verdict.TheVariants.{Accepted, Refused as NotAccepted}
-use Rattle.refusals.specs.declared.Filled.{Filled}
-use Rattle.refusals.specs.declared.Filled.TheVariants.{Length, Refused}
-use Rattle.refusals.specs.Refusals.{result, checked, Fills, Settled}
+use Rattle.refusals.specs.Answers.{Verdict, Filled}
+use Rattle.refusals.specs.Refusals.{result, checked, Fills}
 use Rattle.refusals.specs.RefusalsLaws.{refused_of, result_of}
 use Rattle.hextext.specs.Text.{read_text}
 use Rattle.panel.specs.Verdict.{verdict_of}
 use Rattle.panel.specs.Load.{answered, kept, Keeps, load_text}
 
-module _ (level size : ℕ) (before part : List ℕ) (v : Verdict) (p : part ≡ take size (drop 0 before)) (j : v ≡ verdict_of level part) where
-  judged_part : verdict_of level (take size before) ≡ v
-  judged_part = sym (j ∙ rw p)
-
-  pub keeps_accepted : v ≡ Accepted → Keeps level size before (Length size) before
-  keeps_accepted a = record { answers = rw (judged_part, a); holds = rw (judged_part, a) }
-
-  pub keeps_refused : (r : Refusal) (last : Filled) (cleared : List ℕ) → v ≡ NotAccepted r → Settled (Refused r) before last cleared
-      → Keeps level size before last cleared
-  keeps_refused r last cleared a s = record { answers = rw (judged_part, a) s.same; holds = rw (judged_part, a) s.cleared }
-
--- ---- the load
-
 module _ (level : ℕ) (text before after : List ℕ) (told : Filled) (f : Fills (read_text (length before) text) before told after) where
-  pub text_refused : (r : Refusal) → told ≡ Refused r → Fills (load_text level (length before) text) before told after
+  pub text_refused : (r : Refusal) (last : Filled) → told ≡ Err r → last ≡ Err r → Fills (load_text level (length before) text) before last after
   unfolding load_text
-  text_refused r e = let o = refused_of (read_text (length before) text) before after told f r e in rw o (rw o at f)
+  text_refused r last e d = let o = refused_of (read_text (length before) text) before after told f r e in rw (o, d) (rw (o, e) at f)
 
-  pub image_judged : (n : ℕ) (last : Filled) (final : List ℕ) → told ≡ Length n → length after ≡ length before → Keeps level n after last final
+  pub image_judged : (n : ℕ) (last : Filled) (final : List ℕ) → told ≡ Ok n → length after ≡ length before → Keeps level n after last final
       → Fills (load_text level (length before) text) before last final
   unfolding load_text
   image_judged n last final e l k = rw o (fills (verdict_of level image) k.answers k.holds)
@@ -49,5 +33,5 @@ module _ (level : ℕ) (text before after : List ℕ) (told : Filled) (f : Fills
       read = rw o at f
 
       fills : (v : Verdict) → last ≡ answered v n → final ≡ kept v after → Fills (checked v image) before last final
-      fills Accepted a b = record { answers = a ∙ sym e ∙ read.answers; holds = b ∙ read.holds }
-      fills (NotAccepted r) a b = record { answers = a; holds = b ∙ rw (sub-zero (length after), l) }
+      fills (Ok tt) a b = record { answers = a ∙ sym e ∙ read.answers; holds = b ∙ read.holds }
+      fills (Err r) a b = record { answers = a; holds = b ∙ rw (sub-zero (length after), l) }

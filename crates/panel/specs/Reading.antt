@@ -1,17 +1,14 @@
 -- The reading of an image: the verdict, and then what the bodies and the counts come to.
-use Rattle.std.specs.Prelude.{List, [], ℕ}
+use Rattle.std.specs.Prelude.{List, [], ℕ, Err, None, Ok, Some}
 use Rattle.std.proofs.Math.Option.{Option, none, some}
-use Rattle.refusals.specs.declared.Verdict.{Verdict}
-use Rattle.refusals.specs.declared.Verdict.TheVariants.{Accepted, Refused as NotAccepted}
+use Rattle.refusals.specs.Answers.{Verdict}
 use Rattle.image.specs.Sections.{Section, sections}
 use Rattle.image.specs.Find.{body_of, or_else}
 use Rattle.bodies.specs.Identity.{identity_of}
 use Rattle.bodies.specs.Trim.{trim_of}
 use Rattle.reading.specs.declared.Counts.{Counts}
-use Rattle.reading.specs.declared.Answer.{Answer}
-use Rattle.reading.specs.declared.Answer.TheVariants.{Refused}
-use Rattle.reading.specs.declared.Trimming.{Trimming}
-use Rattle.reading.specs.declared.Trimming.TheVariants.{Untrimmed, By}
+use Rattle.reading.specs.Answers.{Answer}
+use Rattle.reading.specs.Answers.{Trimming}
 use Rattle.reading.specs.Gauge.{Gauge, gauge_of}
 use Rattle.reading.specs.Measured.{measured_of}
 use Rattle.panel.specs.Verdict.{verdict_of}
@@ -20,8 +17,8 @@ abbrev pub body_in : (kind : ℕ) → List Section → List ℕ
 body_in kind ss = or_else [] (body_of kind ss)
 
 abbrev pub trimming_of : Option (List ℕ) → Trimming
-trimming_of none = Untrimmed
-trimming_of (some body) = By (trim_of body)
+trimming_of none = None
+trimming_of (some body) = Some (trim_of body)
 
 -- what the sections say of their gauge
 abbrev pub sections_gauge : List Section → Gauge
@@ -31,8 +28,8 @@ unfoldable pub sections_reading : List Section → Counts → Answer
 sections_reading ss counts = measured_of counts (sections_gauge ss)
 
 abbrev pub after_verdict : Verdict → Answer → Answer
-after_verdict Accepted answer = answer
-after_verdict (NotAccepted r) answer = Refused r
+after_verdict (Ok tt) answer = answer
+after_verdict (Err r) answer = Err r
 
 unfoldable pub reading_of : (level : ℕ) → (image : List ℕ) → Counts → Answer
 reading_of level image counts = after_verdict (verdict_of level image) (sections_reading (sections image) counts)

@@ -1,8 +1,7 @@
 -- The verdict on an image: 20, then 5 to 13, 15, 16 in that order, each finished for the whole image before the next.
-use Rattle.std.specs.Prelude.{cond, List, [], ◌∷◌, ℕ, eqb}
+use Rattle.std.specs.Prelude.{cond, List, [], ◌∷◌, ℕ, eqb, Ok}
 use Rattle.std.proofs.Math.Option.{Option, none, some}
-use Rattle.refusals.specs.declared.Verdict.{Verdict}
-use Rattle.refusals.specs.declared.Verdict.TheVariants.{Accepted}
+use Rattle.refusals.specs.Answers.{Verdict}
 use Rattle.refusals.specs.Refusals.{ask, and_then}
 use Rattle.image.specs.Layout.{layout_verdict}
 use Rattle.image.specs.Sections.{Section, sections}
@@ -19,7 +18,7 @@ level_verdict level = ask (is_level level) 20 0
 
 -- 9: kinds rise, so the first that may not be passed over is the lowest
 unfoldable pub unknown_verdict : (level : ℕ) → List Section → Verdict
-unknown_verdict level [] = Accepted
+unknown_verdict level [] = Ok tt
 unknown_verdict level (s ∷ ss) = and_then (ask (may_pass level s.kind) 9 s.kind) (unknown_verdict level ss)
 
 -- 10
@@ -37,16 +36,16 @@ kind_verdict kind body =
     (cond (eqb kind 3) (set_verdict 13 body)
     (cond (eqb kind 4) (trim_verdict body)
     (cond (eqb kind 129) (note_verdict body)
-    Accepted))))
+    (Ok tt)))))
 
 -- a body, where it is there
 abbrev pub there_verdict : (List ℕ → Verdict) → Option (List ℕ) → Verdict
-there_verdict verdict none = Accepted
+there_verdict verdict none = Ok tt
 there_verdict verdict (some body) = verdict body
 
 -- the bodies of these kinds, in their order
 unfoldable pub kinds_verdict : (kinds : List ℕ) → List Section → Verdict
-kinds_verdict [] ss = Accepted
+kinds_verdict [] ss = Ok tt
 kinds_verdict (kind ∷ kinds) ss = and_then (there_verdict (kind_verdict kind) (body_of kind ss)) (kinds_verdict kinds ss)
 
 -- the bodies of the kinds that the level knows

@@ -4,13 +4,16 @@
 // Which kinds a level knows.
 mod levels;
 
-// The contents lines and bodies of an image whose layout is good.
-mod good_layout;
+// An image whose layout is good.
+mod laid_out;
 
 // The verdict on an image.
 mod verdicts;
 
 pub use verdicts::verdict;
+
+// An image that a panel accepts.
+mod accepted;
 
 // The reading of an image.
 mod readings;

@@ -4,7 +4,7 @@ ghost use Rattle.refusals.specs.Refusals.{Fills};
 ghost use Rattle.panel.specs.Load.{Keeps, load_text};
 
 use crate::verdicts::verdict;
-use refusals::{Filled, Verdict};
+use refusals::Filled;
 
 // The image at the buffer's start, `size` bytes, judged: the buffer stays as it is, or is cleared where the image is refused.
 pub fn keep_accepted(level: u32, image: &mut [u8], size: usize) -> Filled
@@ -12,8 +12,8 @@ pub fn keep_accepted(level: u32, image: &mut [u8], size: usize) -> Filled
 {
     let judged = verdict(numbers::slices::part(image, 0, size), level);
     match judged {
-        Verdict::Accepted => Filled::Length(size),
-        Verdict::Refused(refusal) => refusals::settled(Filled::Refused(refusal), image),
+        Ok(()) => Ok(size),
+        Err(refusal) => refusals::settled(Err(refusal), image),
     }
 }
 
@@ -22,9 +22,6 @@ pub fn keep_accepted(level: u32, image: &mut [u8], size: usize) -> Filled
 pub fn load(text: &[u8], level: u32, image: &mut [u8]) -> Filled
     ensures { Fills (load_text level (length image.old) text.now) image.old result image.new }
 {
-    let answer = hexread::read(text, image);
-    match answer {
-        Filled::Length(size) => keep_accepted(level, image, size),
-        Filled::Refused(_) => answer,
-    }
+    let size = hexread::read(text, image)?;
+    keep_accepted(level, image, size)
 }

@@ -1,12 +1,11 @@
 -- An image can be laid out anew: the builder does it, wherever sections and bytes keep to their limits; and there is one way only.
-use Rattle.std.specs.Prelude.{true, false, cond, List, [], ◌∷◌, ◌⊎◌, ◌≡◌, refl, ℕ, ◌+◌, ◌*◌, ◌≤◌, eqb, length}
+use Rattle.std.specs.Prelude.{true, false, cond, List, [], ◌∷◌, ◌⊎◌, ◌≡◌, refl, ℕ, ◌+◌, ◌*◌, ◌≤◌, eqb, length, Ok}
 use Rattle.std.proofs.Common.{inl, inr, subst, sym, ap, ◌∙◌, le_refl, arith, eqb-true, eq-eqb}
 use Rattle.std.proofs.Math.Option.{Option, none, some}
 use Rattle.paper.specs.Words.{Not}
 use Rattle.paper.specs.Image.{HasBody}
 use Rattle.laws.specs.Bytes.{Bytes}
 use Rattle.laws.specs.Cases.{decide, never}
-use Rattle.refusals.specs.declared.Verdict.TheVariants.{Accepted}
 use Rattle.refusals.specs.Refusals.{result}
 use Rattle.image.specs.Layout.{layout_verdict}
 use Rattle.image.specs.Sections.{Section, sections, bodies_of, image_of, Fit}
@@ -83,7 +82,7 @@ module _ (level : ℕ) (image : List ℕ) (further : List Section) (bytes : Byte
   abbrev all : List Section
   all = merged (sections image) further
 
-  good : layout_verdict image ≡ Accepted
+  good : layout_verdict image ≡ Ok tt
   good = (accepted_readable level image ((verdict_accepted_exactly level image).1 f.accepted)).good
 
   new : EachKind (λ kind. holds kind (sections image) ≡ false) further

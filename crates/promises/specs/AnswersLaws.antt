@@ -1,5 +1,5 @@
 -- From a definition to what a call answers: each function's refusals and results are document 01's.
-use Rattle.std.specs.Prelude.{Bool, true, ◌&&◌, List, [], ◌∷◌, ◌↔◌, ℕ, ◌+◌, ◌≤◌, min, leb, length}
+use Rattle.std.specs.Prelude.{Bool, true, ◌&&◌, List, [], ◌∷◌, ◌↔◌, ℕ, ◌+◌, ◌≤◌, min, leb, length, Err, Ok, Option as Maybe}
 use Rattle.std.proofs.Math.Logic.{inl, inr}
 use Rattle.std.proofs.Math.Option.{Option, none, some}
 use Rattle.std.proofs.Math.Path.{◌≡◌, refl}
@@ -18,9 +18,8 @@ use Rattle.hexformat.proofs.Agrees.{read_exactly, refused_exactly, refused_known
 use Rattle.laws.specs.Bytes.{Bytes}
 use Rattle.laws.specs.Cases.{never, both_left, both_right}
 use Rattle.refusals.specs.declared.Refusal.{Refusal}
-use Rattle.refusals.specs.declared.Verdict.{Verdict}
-use Rattle.refusals.specs.declared.Verdict.TheVariants.{Accepted, Refused as NotAccepted}
-use Rattle.refusals.specs.declared.Filled.{Filled}
+use Rattle.refusals.specs.Answers.{Verdict}
+use Rattle.refusals.specs.Answers.{Filled}
 use Rattle.refusals.specs.declared.for_c.FilledForC.{FilledForC}
 use Rattle.refusals.specs.InNumbers.{verdict_number, verdict_detail, filled_number, filled_detail, filled_length}
 use Rattle.refusals.specs.Refusals.{Outcome, result, refused as is-refused, answer_to, Fills as FillsBuffer}
@@ -36,8 +35,7 @@ use Rattle.finder.specs.declared.Place.{Place}
 use Rattle.finder.specs.Places.{placed}
 use Rattle.finder.specs.ForC.{place_for_c}
 use Rattle.reading.specs.declared.Counts.{Counts}
-use Rattle.reading.specs.declared.Answer.{Answer}
-use Rattle.reading.specs.declared.Answer.TheVariants.{Shown, Refused}
+use Rattle.reading.specs.Answers.{Answer}
 use Rattle.reading.specs.InNumbers.{answer_number, answer_detail, answer_pressure, answer_temperature, answer_unit, answer_mark}
 use Rattle.panel.specs.Verdict.{verdict_of}
 use Rattle.panel.specs.Reading.{reading_of}
@@ -63,8 +61,8 @@ first_numbered (r ∷ rows) e number detail (inl (n, g)) = rw n (leb-true 1 r.nu
 first_numbered (r ∷ rows) e number detail (inr (n, f)) = first_numbered rows (both_right (leb 1 r.number) (numbered rows) e) number detail f
 
 pub verdict_tells : (rows : List Row) → numbered rows ≡ true → (v : Verdict) → Gives rows v → Tells rows (verdict_number v) (verdict_detail v)
-verdict_tells rows e Accepted g = inr (refl, refl, g)
-verdict_tells rows e (NotAccepted r) g = inl (first_numbered rows e r.number r.detail g, g)
+verdict_tells rows e (Ok tt) g = inr (refl, refl, g)
+verdict_tells rows e (Err r) g = inl (first_numbered rows e r.number r.detail g, g)
 
 -- ---- a lent buffer
 
@@ -150,7 +148,7 @@ module _ (level : ℕ) (text before : List ℕ) where
 
 -- ---- a kind found
 
-pub find_answer : (image : List ℕ) (kind : ℕ) (place : Place) → place ≡ placed (found_offset image kind) (found_in image kind)
+pub find_answer : (image : List ℕ) (kind : ℕ) (place : Maybe Place) → place ≡ placed (found_offset image kind) (found_in image kind)
     → AnswersFind image kind (place_for_c place).there (place_for_c place).offset (place_for_c place).length
 find_answer image kind place e = rw e (by (found_offset image kind) (found_in image kind) refl refl)
   where
@@ -198,9 +196,9 @@ has_answer image kind there e = rw e (by (found_in image kind) refl)
 pub reading_answer : (level : ℕ) (image : List ℕ) (counts : Counts) (a : Answer) → a ≡ reading_of level image counts
     → AnswersReading level image (on_paper counts) (answer_number a) (answer_detail a) (answer_pressure a) (answer_temperature a)
     (answer_unit a) (answer_mark a)
-reading_answer level image counts (Shown reading) e =
+reading_answer level image counts (Ok reading) e =
     let s = (reading_shown_exactly level image counts reading).0 (sym e) in
     shown refl refl s.0 s.1
-reading_answer level image counts (Refused r) e =
+reading_answer level image counts (Err r) e =
     let f = (reading_refused_exactly level image counts r.number r.detail).0 (sym e) in
     not_shown (first_numbered (reading_table level image (on_paper counts)) refl r.number r.detail f) f refl refl refl refl

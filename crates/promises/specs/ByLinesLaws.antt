@@ -1,5 +1,5 @@
 -- A text taken by lines makes of a panel what the whole text makes of it.
-use Rattle.std.specs.Prelude.{◌≡◌, false, ℕ, zero, suc, ◌+◌, ◌-◌, ◌%◌, ◌^◌, ◌≤◌, ◌<◌, min, eqb, drop, get_or, set, replicate}
+use Rattle.std.specs.Prelude.{◌≡◌, false, ℕ, zero, suc, ◌+◌, ◌-◌, ◌%◌, ◌^◌, ◌≤◌, ◌<◌, min, eqb, drop, get_or, set, replicate, Err, Ok}
 use Rattle.std.proofs.Math.Path.{refl}
 use Rattle.std.proofs.Common.{sym, ap, ◌∙◌, ne_eqb, length-append, length-set, take_all}
 use mathlib.Core.List.{List, [], ◌∷◌, ◌++◌}
@@ -10,11 +10,10 @@ use Rattle.std.proofs.lemmas.List.{length-replicate}
 use Rattle.std.proofs.Math.Seq.{take_at, drop-append-add, paste}
 use Rattle.limits.specs.Limits.{largest_image}
 use Rattle.refusals.specs.declared.Refusal.{Refusal}
-use Rattle.refusals.specs.declared.Verdict.{Verdict}
-use Rattle.refusals.specs.declared.Verdict.TheVariants.{Accepted, Refused}
+use Rattle.refusals.specs.Answers.{Verdict}
 use Rattle.refusals.specs.Refusals.{refused, checked}
-use Rattle.hextext.specs.declared.Record.{Record}
-use Rattle.hextext.specs.declared.Record.TheVariants.{Data, End, Fault}
+use Rattle.hextext.specs.Answers.{LineRecord}
+use Rattle.hextext.specs.declared.Record.TheVariants.{Data, End}
 use Rattle.hextext.specs.Lines.{lines_of, line_record, line_data, Progress, under_way, whole, stopped, after_line, after_lines, at_end}
 use Rattle.promises.specs.LinesLaws.{lines_read}
 use Rattle.panel.specs.Verdict.{verdict_of}
@@ -114,8 +113,8 @@ module _ (level size : ℕ) where
       next : (lines + 1) % 2 ^ 64 ≡ lines + 1
       next = small_line lines (omega arith)
 
-      by : (judged : Record) → line_record room (length image) line ≡ judged → Steps line (under_way lines image)
-      by (Data n) e =
+      by : (judged : LineRecord) → line_record room (length image) line ≡ judged → Steps line (under_way lines image)
+      by (Ok (Data n)) e =
           let f = data_fits room (length image) line n e in
           let more = length-append image (line_data line) in
           record {
@@ -133,8 +132,8 @@ module _ (level size : ℕ) where
                 rw e (counted_under_way {lines = lines + 1} {image = image ++ line_data line} (omega (arith, more, f.all, f.some))
                 (omega (arith, more, f.all, f.fits)));
           }
-      by End e = record { same = rw (long, e, next); counts = rw e (counted_whole {lines = lines + 1} {image = image} (omega arith) k) }
-      by (Fault number) e = record { same = rw (long, e, next, long); counts = rw e counted_stopped }
+      by (Ok End) e = record { same = rw (long, e, next); counts = rw e (counted_whole {lines = lines + 1} {image = image} (omega arith) k) }
+      by (Err number) e = record { same = rw (long, e, next, long); counts = rw e counted_stopped }
 
   pub step : (line : List ℕ) (progress : Progress) → Counted size progress → Steps line progress
   unfolding line_taken after_line
@@ -163,8 +162,8 @@ module _ (level size : ℕ) where
   judged_is : (image : List ℕ) → length image ≤ room → (v : Verdict) → verdict_of level image ≡ v
       → image_judged (verdict_of level image) level image (image ++ replicate (size - length image) 0)
       ≡ ended level size (checked (verdict_of level image) image)
-  judged_is image h Accepted e = rw e
-  judged_is image h (Refused r) e =
+  judged_is image h (Ok tt) e = rw e
+  judged_is image h (Err r) e =
       let long : length (image ++ replicate (size - length image) 0) ≡ size =
       omega (arith, length-append image (replicate (size - length image) 0), length-replicate {A = ℕ} (size - length image) 0) in
       rw (e, long)

@@ -1,14 +1,12 @@
 -- The first demand: every call answers, a refusal says its number and detail, and it leaves nothing behind. Said of every call that there
 -- can be, by the called function's own contract. No call asks anything of its caller: that is contracts/Free.
-use Rattle.std.specs.Prelude.{true, cond, List, [], ◌∷◌, ◌↔◌, ◌≡◌, refl, ℕ, length, take, drop, replicate}
+use Rattle.std.specs.Prelude.{true, cond, List, [], ◌∷◌, ◌↔◌, ◌≡◌, refl, ℕ, length, take, drop, replicate, Err, Ok}
 use Rattle.std.proofs.Math.Seq.{take-length}
 use Rattle.paper.specs.Table.{row, NoneGiven, FirstGiven, Tells}
 use Rattle.paper.specs.Image.{HasKind, layout_table}
 use Rattle.paper.specs.Bodies.{IdentityWrong, SetWrong, TrimWrong, NoteWrong}
 use Rattle.paper.specs.Verdict.{verdict_table}
 use Rattle.refusals.specs.declared.Refusal.{Refusal}
-use Rattle.refusals.specs.declared.Verdict.TheVariants.{Accepted, Refused as NotAccepted}
-use Rattle.refusals.specs.declared.Filled.TheVariants.{Refused as NotFilled}
 use Rattle.refusals.specs.InNumbers.{verdict_number, verdict_detail, filled_number, filled_detail, filled_length}
 use Rattle.refusals.specs.Refusals.{Outcome, refusal, Fills as FillsBuffer}
 use Rattle.calls.specs.Call.{shared, next, EveryCall}
@@ -26,7 +24,6 @@ use Rattle.bodies.specs.Identity.{identity_verdict}
 use Rattle.bodies.specs.Trim.{trim_verdict}
 use Rattle.bodies.specs.Note.{note_verdict}
 use Rattle.reading.specs.declared.Counts.{Counts}
-use Rattle.reading.specs.declared.Answer.TheVariants.{Refused}
 use Rattle.reading.specs.InNumbers.{answer_number, answer_detail, answer_pressure, answer_temperature, answer_unit, answer_mark}
 use Rattle.panel.specs.Levels.{is_level}
 use Rattle.panel.specs.Verdict.{verdict_of}
@@ -182,7 +179,7 @@ note_answers call r b learnt =
 pub set_answers : EveryCall sets.set_verdict.ended sets_proofs.set_verdict.Reads.Learnt
     (λ call r b.
     let rows = row call.arguments.1.0 0 (SetWrong call.arguments.0.now) ∷ [] in
-    ((r ≡ Accepted) ↔ NoneGiven rows) × ((r ≡ NotAccepted (refusal call.arguments.1.0 0)) ↔ FirstGiven rows call.arguments.1.0 0))
+    ((r ≡ Ok tt) ↔ NoneGiven rows) × ((r ≡ Err (refusal call.arguments.1.0 0)) ↔ FirstGiven rows call.arguments.1.0 0))
 set_answers call r b learnt =
     let body = call.arguments.0.now in
     let number = call.arguments.1.0 in
@@ -256,17 +253,17 @@ bjorkneve_reading_answers call r b learnt =
 
 -- ---- no old image stays behind
 
-module _ (outcome : Outcome) (before after : List ℕ) (r : Refusal) (fills : FillsBuffer outcome before (NotFilled r) after) where
+module _ (outcome : Outcome) (before after : List ℕ) (r : Refusal) (fills : FillsBuffer outcome before (Err r) after) where
   -- After a refusal no panel of any level gives a reading for any counts, not from the buffer and not from any part of it.
   pub no_reading_after : (level start n : ℕ) (counts : Counts)
-      → reading_of level (take n (drop start after)) counts ≡ Refused (cond (is_level level) (refusal 5 0) (refusal 20 0))
+      → reading_of level (take n (drop start after)) counts ≡ Err (cond (is_level level) (refusal 5 0) (refusal 20 0))
   no_reading_after level start n counts =
       rw (refused_zeros outcome before after r fills)
       (zeros_refused (take n (drop start (replicate (length before) 0))) (part_starts (length before) start n) level counts)
 
 -- So a panel whose load was refused has no reading, whatever was loaded before.
 pub no_reading_after_load : (level : ℕ) (text before after : List ℕ) (r : Refusal)
-    → FillsBuffer (load_text level (length before) text) before (NotFilled r) after
-    → (panel : ℕ) (counts : Counts) → reading_of panel after counts ≡ Refused (cond (is_level panel) (refusal 5 0) (refusal 20 0))
+    → FillsBuffer (load_text level (length before) text) before (Err r) after
+    → (panel : ℕ) (counts : Counts) → reading_of panel after counts ≡ Err (cond (is_level panel) (refusal 5 0) (refusal 20 0))
 no_reading_after_load level text before after r fills panel counts =
     rw (take-length after) at (no_reading_after (load_text level (length before) text) before after r fills panel 0 (length after) counts)

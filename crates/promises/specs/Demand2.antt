@@ -2,7 +2,7 @@
 -- Each theorem goes both ways. What stands to the right of ↔ is document 01 as a relation (crates paper and hexformat), which cites
 -- none of the definitions that the code is proved by. A theorem that is proved elsewhere stands here again, so that the demand is read in
 -- one place.
-use Rattle.std.specs.Prelude.{List, [], ◌∷◌, ◌++◌, ◌↔◌, ◌≡◌, refl, ℕ, ◌-◌, ◌≤◌, ◌<◌, min, pos, length, take, get_or, replicate}
+use Rattle.std.specs.Prelude.{List, [], ◌∷◌, ◌++◌, ◌↔◌, ◌≡◌, refl, ℕ, ◌-◌, ◌≤◌, ◌<◌, min, pos, length, take, get_or, replicate, Err, Ok}
 use Rattle.std.proofs.Math.Option.{none, some}
 use Rattle.paper.specs.Words.{Not}
 use Rattle.paper.specs.Fields.{number, signed}
@@ -14,9 +14,7 @@ use Rattle.paper.specs.Verdict.{verdict_table}
 use Rattle.paper.specs.Builder.{builder_table, IsImageOf}
 use Rattle.paper.specs.ReadingTable.{reading_table}
 use Rattle.paper.specs.Manual.{coefficient, ShowsByManual}
-use Rattle.refusals.specs.declared.Verdict.TheVariants.{Accepted, Refused as NotAccepted}
-use Rattle.refusals.specs.declared.Filled.{Filled}
-use Rattle.refusals.specs.declared.Filled.TheVariants.{Length}
+use Rattle.refusals.specs.Answers.{Filled}
 use Rattle.refusals.specs.Refusals.{result, refused, refusal, Fills}
 use Rattle.calls.specs.Call.{Call, shared, next, EveryCall}
 use Rattle.calls.specs.CallLaws.{lent_bytes}
@@ -38,7 +36,6 @@ use Rattle.bodies.specs.Identity.{identity_of}
 use Rattle.bodies.specs.Trim.{trim_of}
 use Rattle.reading.specs.declared.Counts.{Counts}
 use Rattle.reading.specs.declared.Reading.{Reading}
-use Rattle.reading.specs.declared.Answer.TheVariants.{Shown, Refused}
 use Rattle.panel.specs.Verdict.{verdict_of}
 use Rattle.panel.specs.Reading.{reading_of}
 use Rattle.hexwrite.specs.contracts as hexwrite
@@ -104,20 +101,20 @@ module _ (call : Call hexwrite.write.signature) where
 
   -- whatever writing and then reading may answer by their contracts.
   pub image_there_and_back : (text text' buffer buffer' : List ℕ) (n : ℕ) (answer : Filled)
-      → Fills (write_image (length text) image) text (Length n) text'
+      → Fills (write_image (length text) image) text (Ok n) text'
       → Fills (read_text (length buffer) (take n text')) buffer answer buffer'
       → length image ≤ length buffer
-      → (answer ≡ Length (length image)) × (buffer' ≡ image ++ replicate (length buffer - length image) 0)
+      → (answer ≡ Ok (length image)) × (buffer' ≡ image ++ replicate (length buffer - length image) 0)
   image_there_and_back text text' buffer buffer' n answer = there_and_back image text text' buffer buffer' n answer (lent_bytes call (shared 0 tt))
 
 -- ---- the image reader
 
 -- A layout is refused by 5 to 8, with their details, exactly where that is the first row given, and good exactly where none is.
 pub layout_refused_by : (image : List ℕ) (number detail : ℕ)
-    → (layout_verdict image ≡ NotAccepted (refusal number detail)) ↔ FirstGiven (layout_table image) number detail
+    → (layout_verdict image ≡ Err (refusal number detail)) ↔ FirstGiven (layout_table image) number detail
 layout_refused_by = layout_refused_exactly
 
-pub layout_good : (image : List ℕ) → (layout_verdict image ≡ Accepted) ↔ NoneGiven (layout_table image)
+pub layout_good : (image : List ℕ) → (layout_verdict image ≡ Ok tt) ↔ NoneGiven (layout_table image)
 layout_good = layout_accepted_exactly
 
 -- A kind's body is found exactly where the layout is good and the image has it, at the offset that its contents line states.
@@ -133,10 +130,10 @@ body_offset = offset_exactly
 
 -- An image is refused at a level exactly by the first row given, and accepted exactly where none is.
 pub verdict_refused_by : (level : ℕ) (image : List ℕ) (number detail : ℕ)
-    → (verdict_of level image ≡ NotAccepted (refusal number detail)) ↔ FirstGiven (verdict_table level image) number detail
+    → (verdict_of level image ≡ Err (refusal number detail)) ↔ FirstGiven (verdict_table level image) number detail
 verdict_refused_by = verdict_refused_exactly
 
-pub verdict_accepts : (level : ℕ) (image : List ℕ) → (verdict_of level image ≡ Accepted) ↔ NoneGiven (verdict_table level image)
+pub verdict_accepts : (level : ℕ) (image : List ℕ) → (verdict_of level image ≡ Ok tt) ↔ NoneGiven (verdict_table level image)
 verdict_accepts = verdict_accepted_exactly
 
 -- ---- the builder
@@ -161,16 +158,16 @@ image_built_exactly call size image =
 
 -- A reading is refused by a number with a detail exactly where that is the first row given,
 pub reading_refused_by : (level : ℕ) (image : List ℕ) (counts : Counts) (number detail : ℕ)
-    → (reading_of level image counts ≡ Refused (refusal number detail)) ↔ FirstGiven (reading_table level image (on_paper counts)) number detail
+    → (reading_of level image counts ≡ Err (refusal number detail)) ↔ FirstGiven (reading_table level image (on_paper counts)) number detail
 reading_refused_by = reading_refused_exactly
 
 -- and shown exactly where none is and it is what document 01 works out: frequencies, X by each set's own prescale, the nested sums, mark and trim.
 pub reading_shown : (level : ℕ) (image : List ℕ) (counts : Counts) (reading : Reading)
-    → (reading_of level image counts ≡ Shown reading) ↔ (NoneGiven (reading_table level image (on_paper counts)) × ShowsReading image counts reading)
+    → (reading_of level image counts ≡ Ok reading) ↔ (NoneGiven (reading_table level image (on_paper counts)) × ShowsReading image counts reading)
 reading_shown = reading_shown_exactly
 
 -- What is shown is the nested polynomial of the maker's manual, as it is printed, of the coefficients A0, A1, .. B0, .. in the image.
-pub reading_by_manual : (level : ℕ) (image : List ℕ) (counts : Counts) (reading : Reading) → reading_of level image counts ≡ Shown reading
+pub reading_by_manual : (level : ℕ) (image : List ℕ) (counts : Counts) (reading : Reading) → reading_of level image counts ≡ Ok reading
     → ShowsByManual image (on_paper counts) reading.pressure reading.temperature reading.unit reading.mark
 reading_by_manual = shows_by_manual
 

@@ -1,5 +1,5 @@
 -- The third demand: an image with further sections, and the levels of panels.
-use Rattle.std.specs.Prelude.{List, ◌⊎◌, ◌↔◌, ℕ, ◌<◌, pos}
+use Rattle.std.specs.Prelude.{List, ◌⊎◌, ◌↔◌, ℕ, ◌<◌, pos, Err, Ok}
 use Rattle.std.proofs.Common.{inl, inr, ⊎_elim, sym, ap, ◌∙◌, arith}
 use Rattle.std.proofs.Math.Path.{◌≡◌, refl}
 use Rattle.paper.specs.Words.{Not, Lowest}
@@ -7,15 +7,13 @@ use Rattle.paper.specs.Table.{NoneGiven}
 use Rattle.paper.specs.Image.{HasKind, layout_table}
 use Rattle.paper.specs.Verdict.{UnknownLow, verdict_table}
 use Rattle.laws.specs.Cases.{decide}
-use Rattle.refusals.specs.declared.Verdict.{Verdict}
-use Rattle.refusals.specs.declared.Verdict.TheVariants.{Accepted, Refused as NotAccepted}
+use Rattle.refusals.specs.Answers.{Verdict}
 use Rattle.refusals.specs.Refusals.{refusal}
 use Rattle.refusals.specs.ForC.{verdict_for_c}
 use Rattle.image.specs.Sections.{Section, sections}
 use Rattle.image.specs.Find.{body_of, is_there}
 use Rattle.reading.specs.declared.Counts.{Counts}
 use Rattle.reading.specs.declared.Reading.{Reading}
-use Rattle.reading.specs.declared.Answer.TheVariants.{Shown, Refused}
 use Rattle.reading.specs.ForC.{answer_for_c}
 use Rattle.panel.specs.Verdict.{verdict_of}
 use Rattle.panel.specs.Reading.{sections_reading, after_verdict, reading_of}
@@ -31,7 +29,7 @@ use Rattle.promises.specs.AnewLaws.{anew_accepted, anew_names, high_or_lowest, n
 
 module _ (level : ℕ) (image : List ℕ) (further : List Section) (anew : List ℕ) (f : FurtherSections level image further)
     (laid : LaidAnew image further anew) where
-  was_accepted : verdict_of level image ≡ Accepted
+  was_accepted : verdict_of level image ≡ Ok tt
   was_accepted = (verdict_accepted_exactly level image).1 f.accepted
 
   module _ (high : AllHigh further) where
@@ -54,10 +52,10 @@ module _ (level : ℕ) (image : List ℕ) (further : List Section) (anew : List 
 
   module _ (kind : ℕ) (lowest : LowestLow further kind) where
     -- If one is lower, the panel refuses by number 9 and names the lowest such kind.
-    pub low_verdict : verdict_of level anew ≡ NotAccepted (refusal 9 kind)
+    pub low_verdict : verdict_of level anew ≡ Err (refusal 9 kind)
     low_verdict = (verdict_refused_exactly level anew 9 kind).1 (anew_names level image further anew f laid kind lowest)
 
-    pub low_reading : (counts : Counts) → reading_of level anew counts ≡ Refused (refusal 9 kind)
+    pub low_reading : (counts : Counts) → reading_of level anew counts ≡ Err (refusal 9 kind)
     unfolding reading_of
     low_reading counts = rw low_verdict
 
@@ -80,14 +78,14 @@ high_or_low = high_or_lowest
 -- ---- a level and a lower one
 
 module _ (lower higher : ℕ) (below : LowerLevel lower higher) (image : List ℕ) (counts : Counts) (reading : Reading)
-    (shown : reading_of higher image counts ≡ Shown reading) where
-  accepted : verdict_of higher image ≡ Accepted
+    (shown : reading_of higher image counts ≡ Ok reading) where
+  accepted : verdict_of higher image ≡ Ok tt
   unfolding reading_of
   accepted = by (verdict_of higher image) shown
     where
-      by : (v : Verdict) → after_verdict v (sections_reading (sections image) counts) ≡ Shown reading → v ≡ Accepted
-      by Accepted e = refl
-      by (NotAccepted r) e = let z : ◌≡◌ {A = ℕ} 0 1 = cc in absurd (omega arith)
+      by : (v : Verdict) → after_verdict v (sections_reading (sections image) counts) ≡ Ok reading → v ≡ Ok tt
+      by (Ok tt) e = refl
+      by (Err r) e = let z : ◌≡◌ {A = ℕ} 0 1 = cc in absurd (omega arith)
 
   passes : NoneGiven (verdict_table higher image)
   passes = (verdict_accepted_exactly higher image).0 accepted
@@ -99,7 +97,7 @@ module _ (lower higher : ℕ) (below : LowerLevel lower higher) (image : List �
   both_two two = ⊎_elim (λ (l, h, k). absurd (omega arith)) (λ (e, k). e) (below.grows 4 (inr (two, inl refl)))
 
   -- Where a panel gives a reading, a panel of a lower level gives the same one if the image holds no kind below 128 that it does not know.
-  pub lower_reads : ((kind : ℕ) → Not (UnknownLow lower image kind)) → reading_of lower image counts ≡ Shown reading
+  pub lower_reads : ((kind : ℕ) → Not (UnknownLow lower image kind)) → reading_of lower image counts ≡ Ok reading
   unfolding reading_of
   lower_reads none =
       let rows =
@@ -107,7 +105,7 @@ module _ (lower higher : ℕ) (below : LowerLevel lower higher) (image : List �
       rw ((verdict_accepted_exactly lower image).1 rows) (rw accepted at shown)
 
   -- Else it refuses by 9 and names the lowest such kind.
-  pub lower_refuses : (kind : ℕ) → Lowest (UnknownLow lower image) kind → reading_of lower image counts ≡ Refused (refusal 9 kind)
+  pub lower_refuses : (kind : ℕ) → Lowest (UnknownLow lower image) kind → reading_of lower image counts ≡ Err (refusal 9 kind)
   unfolding reading_of
   lower_refuses kind lowest = rw ((verdict_refused_exactly lower image 9 kind).1 (names_unknown lower image kind (λ n. n below.level) good lowest))
 
@@ -116,7 +114,7 @@ module _ (lower higher : ℕ) (below : LowerLevel lower higher) (image : List �
 one_below_two : LowerLevel 1 2
 one_below_two = record { level = inl refl; grows = λ kind. ⊎_elim (λ (l, h, k). inl (inr refl, h, k)) (λ (e, k). absurd (omega arith)) }
 
-module _ (image : List ℕ) (counts : Counts) (reading : Reading) (shown : reading_of 2 image counts ≡ Shown reading) where
+module _ (image : List ℕ) (counts : Counts) (reading : Reading) (shown : reading_of 2 image counts ≡ Ok reading) where
   rows_of_two : NoneGiven (verdict_table 2 image)
   rows_of_two = passes 1 2 one_below_two image counts reading shown
 
@@ -130,12 +128,12 @@ module _ (image : List ℕ) (counts : Counts) (reading : Reading) (shown : readi
       )
 
   -- Where a level 2 panel gives a reading, a level 1 panel gives the same one
-  pub without_trim : Not (HasKind image 4) → reading_of 1 image counts ≡ Shown reading
+  pub without_trim : Not (HasKind image 4) → reading_of 1 image counts ≡ Ok reading
   without_trim none =
       lower_reads 1 2 one_below_two image counts reading shown (λ kind u. only_trim kind u (λ four. none (rw four at u.0)))
 
   -- or, if kind 4 is present, refuses by 9 naming it,
-  pub with_trim : HasKind image 4 → reading_of 1 image counts ≡ Refused (refusal 9 4)
+  pub with_trim : HasKind image 4 → reading_of 1 image counts ≡ Err (refusal 9 4)
   with_trim there =
       lower_refuses 1 2 one_below_two image counts reading shown 4 (
         (there, omega arith, ⊎_elim (λ (l, h, k). omega arith) (λ (e, k). omega arith)),
@@ -148,13 +146,13 @@ module _ (image : List ℕ) (counts : Counts) (reading : Reading) (shown : readi
       decide (is_there (body_of 4 (sections image))) (λ e. inl (tested.yes e)) (λ e. inr (tested.no e))
 
   -- exactly if it is.
-  pub refuses_exactly : (reading_of 1 image counts ≡ Refused (refusal 9 4)) ↔ HasKind image 4
+  pub refuses_exactly : (reading_of 1 image counts ≡ Err (refusal 9 4)) ↔ HasKind image 4
   refuses_exactly = (
     λ e. ⊎_elim (λ there. there) (λ absent. let z : ◌≡◌ {A = ℕ} 0 1 = cc (e, without_trim absent) in absurd (omega arith)) trim_there,
     with_trim,
   )
 
-  pub shows_exactly : (reading_of 1 image counts ≡ Shown reading) ↔ Not (HasKind image 4)
+  pub shows_exactly : (reading_of 1 image counts ≡ Ok reading) ↔ Not (HasKind image 4)
   shows_exactly = (
     λ e there. let z : ◌≡◌ {A = ℕ} 0 1 = cc (e, with_trim there) in omega arith,
     without_trim,

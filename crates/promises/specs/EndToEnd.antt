@@ -1,13 +1,11 @@
 -- From a supplier's sections to a reading: build, write, load, find, read.
-use Rattle.std.specs.Prelude.{List, ◌++◌, ◌≡◌, refl, ℕ, ◌-◌, ◌≤◌, length, take, replicate}
+use Rattle.std.specs.Prelude.{List, ◌++◌, ◌≡◌, refl, ℕ, ◌-◌, ◌≤◌, length, take, replicate, Ok}
 use Rattle.std.proofs.Math.Option.{some}
 use Rattle.std.proofs.Common.{sym, ap, ◌∙◌, arith, take_at}
 use Rattle.paper.specs.Manual.{ShowsByManual}
 use Rattle.laws.specs.Bytes.{Bytes}
 use Rattle.laws.specs.Cases.{split}
-use Rattle.refusals.specs.declared.Verdict.TheVariants.{Accepted}
-use Rattle.refusals.specs.declared.Filled.{Filled}
-use Rattle.refusals.specs.declared.Filled.TheVariants.{Length}
+use Rattle.refusals.specs.Answers.{Filled}
 use Rattle.refusals.specs.Refusals.{result, Fills}
 use Rattle.refusals.specs.RefusalsLaws.{result_of}
 use Rattle.hextext.specs.Text.{read_text}
@@ -22,7 +20,6 @@ use Rattle.builder.specs.BuildLaws.{sections_again}
 use Rattle.builder.specs.Built.{built_found, built_bytes}
 use Rattle.reading.specs.declared.Counts.{Counts}
 use Rattle.reading.specs.declared.Reading.{Reading}
-use Rattle.reading.specs.declared.Answer.TheVariants.{Shown}
 use Rattle.panel.specs.Verdict.{verdict_of}
 use Rattle.panel.specs.Reading.{reading_of}
 use Rattle.panel.specs.Load.{load_text}
@@ -37,27 +34,27 @@ module _ (level : ℕ) (ss : List Section) (once : EachOnce ss) (image image' te
     -- the bodies are bytes, as all that is lent to the builder,
     (bytes : Bytes (bodies_of ss))
     -- the builder makes an image of the sections,
-    (built : Fills (build_image (length image) (lines_of ss) (bodies_of ss)) image (Length n) image')
+    (built : Fills (build_image (length image) (lines_of ss) (bodies_of ss)) image (Ok n) image')
     -- which a panel of the level accepts,
-    (accepted : verdict_of level (take n image') ≡ Accepted)
+    (accepted : verdict_of level (take n image') ≡ Ok tt)
     -- the writer makes a text of it,
-    (written : Fills (write_image (length text) (take n image')) text (Length m) text')
+    (written : Fills (write_image (length text) (take n image')) text (Ok m) text')
     -- and the panel, whose buffer has room for it, is given that text
     (room : n ≤ length loaded) (given : Fills (load_text level (length loaded) (take m text')) loaded answer loaded') where
   abbrev made : List ℕ
   made = take n image'
 
   build_is : build_image (length image) (lines_of ss) (bodies_of ss) ≡ result made
-  build_is = result_of _ image image' (Length n) built n refl
+  build_is = result_of _ image image' (Ok n) built n refl
 
   long : length made ≡ n
-  long = let e : Length n ≡ Length (length made) = rw build_is at built.answers in sym (cc e)
+  long = let e : Ok n ≡ Ok (length made) = rw build_is at built.answers in sym (cc e)
 
   made_bytes : Bytes made
   made_bytes = built_bytes (length image) (lines_of ss) (bodies_of ss) made build_is bytes
 
   write_is : write_image (length text) made ≡ result (take m text')
-  write_is = result_of _ text text' (Length m) written m refl
+  write_is = result_of _ text text' (Ok m) written m refl
 
   read_is : read_text (length loaded) (take m text') ≡ result made
   read_is =
@@ -70,8 +67,8 @@ module _ (level : ℕ) (ss : List Section) (once : EachOnce ss) (image image' te
   load_is = rw (read_is, accepted)
 
   -- The panel loads it,
-  pub sections_loads : answer ≡ Length n
-  sections_loads = rw load_is at given.answers ∙ ap Length long
+  pub sections_loads : answer ≡ Ok n
+  sections_loads = rw load_is at given.answers ∙ ap Ok long
 
   -- its buffer holds that image, and zeros after it,
   pub sections_holds : loaded' ≡ made ++ replicate (length loaded - n) 0
@@ -86,6 +83,6 @@ module _ (level : ℕ) (ss : List Section) (once : EachOnce ss) (image image' te
       rw same (built_found (length image) (lines_of ss) (bodies_of ss) made build_is kind ∙ rw (sections_again ss) (among_found kind body ss once among))
 
   -- and for all counts what is shown is the manual's polynomial of the coefficients in it.
-  pub sections_reads : (counts : Counts) (reading : Reading) → reading_of level (take n loaded') counts ≡ Shown reading
+  pub sections_reads : (counts : Counts) (reading : Reading) → reading_of level (take n loaded') counts ≡ Ok reading
       → ShowsByManual made (on_paper counts) reading.pressure reading.temperature reading.unit reading.mark
   sections_reads counts reading e = shows_by_manual level made counts reading (rw same at e)

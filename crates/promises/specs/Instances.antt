@@ -1,12 +1,10 @@
 -- For each theorem of the demands with hypotheses, a case that meets them: the worked image, in which every number matters.
-use Rattle.std.specs.Prelude.{List, [], ◌∷◌, ◌++◌, ◌≡◌, refl, ℕ, ◌-◌, ◌≤◌, ◌<◌, pos, length, take, replicate}
+use Rattle.std.specs.Prelude.{List, [], ◌∷◌, ◌++◌, ◌≡◌, refl, ℕ, ◌-◌, ◌≤◌, ◌<◌, pos, length, take, replicate, Err, Ok}
 use Rattle.std.proofs.Common.{inl, inr, ⊎_elim, sym, ap, ◌∙◌, arith}
 use Rattle.std.proofs.Math.Option.{none}
 use Rattle.paper.specs.Words.{Not}
 use Rattle.paper.specs.Verdict.{Knows}
 use Rattle.laws.specs.Bytes.{Bytes}
-use Rattle.refusals.specs.declared.Verdict.TheVariants.{Accepted, Refused as NotAccepted}
-use Rattle.refusals.specs.declared.Filled.TheVariants.{Length, Refused as NotFilled}
 use Rattle.refusals.specs.Refusals.{result, answer_to, held_after, refusal, Fills}
 use Rattle.calls.specs.Call.{Call}
 use Rattle.calls.specs.LendLaws.{lendable}
@@ -23,7 +21,6 @@ use Rattle.builder.specs.Build.{build_image}
 use Rattle.builder.specs.Lines.{lines_of}
 use Rattle.builder.specs.Built.{good_built}
 use Rattle.reading.specs.declared.Counts.{Counts}
-use Rattle.reading.specs.declared.Answer.TheVariants.{Shown, Refused}
 use Rattle.panel.specs.Verdict.{verdict_of}
 use Rattle.panel.specs.Reading.{reading_of}
 use Rattle.panel.specs.Load.{load_text}
@@ -57,14 +54,14 @@ write_called = lendable _ worked_image (replicate 3 7) worked_bytes (computed_by
 
 -- ---- a refused load: an empty text, into a buffer that held something
 
-refused_load : Fills (load_text 1 3 []) (0x51 ∷ 1 ∷ 7 ∷ []) (NotFilled (refusal 1 1)) (0 ∷ 0 ∷ 0 ∷ [])
+refused_load : Fills (load_text 1 3 []) (0x51 ∷ 1 ∷ 7 ∷ []) (Err (refusal 1 1)) (0 ∷ 0 ∷ 0 ∷ [])
 unfolding load_text read_text reading_text
 refused_load = record { answers = refl; holds = refl }
 
-pub refused_load_met : reading_of 2 (0 ∷ 0 ∷ 0 ∷ []) inside_counts ≡ Refused (refusal 5 0)
+pub refused_load_met : reading_of 2 (0 ∷ 0 ∷ 0 ∷ []) inside_counts ≡ Err (refusal 5 0)
 refused_load_met = no_reading_after_load 1 [] (0x51 ∷ 1 ∷ 7 ∷ []) (0 ∷ 0 ∷ 0 ∷ []) (refusal 1 1) refused_load 2 inside_counts
 
-pub no_reading_after_met : reading_of 2 (0 ∷ 0 ∷ []) inside_counts ≡ Refused (refusal 5 0)
+pub no_reading_after_met : reading_of 2 (0 ∷ 0 ∷ []) inside_counts ≡ Err (refusal 5 0)
 no_reading_after_met = no_reading_after (load_text 1 3 []) (0x51 ∷ 1 ∷ 7 ∷ []) (0 ∷ 0 ∷ 0 ∷ []) (refusal 1 1) refused_load 2 1 2 inside_counts
 
 -- ---- further sections
@@ -75,7 +72,7 @@ high_sections = record { kind = 200; body = 1 ∷ 2 ∷ [] } ∷ record { kind =
 abbrev mixed_sections : List Section
 mixed_sections = record { kind = 200; body = 1 ∷ 2 ∷ [] } ∷ record { kind = 127; body = [] } ∷ record { kind = 5; body = 3 ∷ [] } ∷ []
 
-untrimmed_good : layout_verdict untrimmed_image ≡ Accepted
+untrimmed_good : layout_verdict untrimmed_image ≡ Ok tt
 untrimmed_good = (accepted_readable 2 untrimmed_image untrimmed_accepted_at_2).good
 
 module _ (further : List Section) (new : (kind : ℕ) → HasSection kind further → body_of kind (sections untrimmed_image) ≡ none)
@@ -133,10 +130,10 @@ anew_high_lem =
     (rw untrimmed_sections (omega arith)) (rw untrimmed_sections (omega arith))
 
 -- kinds 200 and 130 are passed over, and the reading is the same
-pub high_met : verdict_of 2 anew_high ≡ Accepted
+pub high_met : verdict_of 2 anew_high ≡ Ok tt
 high_met = high_verdict 2 untrimmed_image high_sections anew_high further_high anew_high_lem all_high ∙ untrimmed_accepted_at_2
 
-pub high_reading_met : reading_of 2 anew_high inside_counts ≡ Shown (record { pressure = pos 311201430; temperature = pos 4830423; unit = 1; mark = 0 })
+pub high_reading_met : reading_of 2 anew_high inside_counts ≡ Ok (record { pressure = pos 311201430; temperature = pos 4830423; unit = 1; mark = 0 })
 high_reading_met =
     high_reading 2 untrimmed_image high_sections anew_high further_high anew_high_lem all_high inside_counts ∙ untrimmed_at_2 inside_counts ∙ readings_at_1.0
 
@@ -193,23 +190,23 @@ lowest_five = (((3 ∷ [], inr (inr (inl (refl, refl)))), omega arith), above)
     above j h ((body, inr (inr (inl (e, b)))), low) = omega arith
     above j h ((body, inr (inr (inr k))), low) = elim k [ ]
 
-pub low_met : verdict_of 2 anew_mixed ≡ NotAccepted (refusal 9 5)
+pub low_met : verdict_of 2 anew_mixed ≡ Err (refusal 9 5)
 low_met = low_verdict 2 untrimmed_image mixed_sections anew_mixed further_mixed anew_mixed_lem 5 lowest_five
 
-pub low_reading_met : reading_of 2 anew_mixed inside_counts ≡ Refused (refusal 9 5)
+pub low_reading_met : reading_of 2 anew_mixed inside_counts ≡ Err (refusal 9 5)
 low_reading_met = low_reading 2 untrimmed_image mixed_sections anew_mixed further_mixed anew_mixed_lem 5 lowest_five inside_counts
 
 -- ---- two levels
 
 -- without kind 4 both levels show the reading
-pub without_trim_met : reading_of 1 untrimmed_image inside_counts ≡ Shown (record { pressure = pos 311201430; temperature = pos 4830423; unit = 1; mark = 0 })
+pub without_trim_met : reading_of 1 untrimmed_image inside_counts ≡ Ok (record { pressure = pos 311201430; temperature = pos 4830423; unit = 1; mark = 0 })
 unfolding body_of
 without_trim_met =
     without_trim untrimmed_image inside_counts _ (untrimmed_at_2 inside_counts ∙ readings_at_1.0)
     (none_found untrimmed_image 4 untrimmed_good (rw untrimmed_sections))
 
 -- with kind 4 level 1 refuses
-pub with_trim_met : reading_of 1 worked_image inside_counts ≡ Refused (refusal 9 4)
+pub with_trim_met : reading_of 1 worked_image inside_counts ≡ Err (refusal 9 4)
 unfolding body_of
 with_trim_met = with_trim worked_image inside_counts _ readings_at_2.0 (found_is_had worked_image 4 trim_bytes (rw worked_sections_lem)).has
 
@@ -218,7 +215,7 @@ with_trim_met = with_trim worked_image inside_counts _ readings_at_2.0 (found_is
 abbrev worked_sections : List Section
 worked_sections = sections worked_image
 
-worked_good : layout_verdict worked_image ≡ Accepted
+worked_good : layout_verdict worked_image ≡ Ok tt
 worked_good = (accepted_readable 2 worked_image worked_accepted).good
 
 abbrev buffer : List ℕ
@@ -227,7 +224,7 @@ buffer = replicate 4096 7
 abbrev image_buffer : List ℕ
 image_buffer = worked_image ++ replicate (4096 - 248) 0
 
-worked_built : Fills (build_image 4096 (lines_of worked_sections) (bodies_of worked_sections)) buffer (Length 248) image_buffer
+worked_built : Fills (build_image 4096 (lines_of worked_sections) (bodies_of worked_sections)) buffer (Ok 248) image_buffer
 worked_built =
     let made : build_image 4096 (lines_of worked_sections) (bodies_of worked_sections) ≡ result worked_image =
     good_built 4096 worked_image worked_bytes worked_good (omega arith) in
@@ -237,13 +234,13 @@ worked_built =
 abbrev text_buffer : List ℕ
 text_buffer = text_of worked_image ++ replicate (1000 - 700) 0
 
-worked_written : Fills (write_image 1000 worked_image) (replicate 1000 7) (Length 700) text_buffer
+worked_written : Fills (write_image 1000 worked_image) (replicate 1000 7) (Ok 700) text_buffer
 unfolding text_length
 worked_written =
     let long : length (text_of worked_image) ≡ 700 = text_length_lem worked_image in
-    rw (is_written 1000 worked_image (omega arith) (omega arith)) (record { answers = ap Length (sym long); holds = rw long })
+    rw (is_written 1000 worked_image (omega arith) (omega arith)) (record { answers = ap Ok (sym long); holds = rw long })
 
-pub worked_loads : answer_to (load_text 2 4096 (take 700 text_buffer)) ≡ Length 248
+pub worked_loads : answer_to (load_text 2 4096 (take 700 text_buffer)) ≡ Ok 248
 worked_loads =
     let outcome = load_text 2 4096 (take 700 text_buffer) in
     sections_loads 2 worked_sections once_worked buffer image_buffer (replicate 1000 7) text_buffer buffer (held_after 4096 outcome) 248 700

@@ -1,5 +1,5 @@
 -- A panel's history: after any events from power-on the lamp tells the truth, and a reading is by the last load that began, or there is none.
-use Rattle.std.specs.Prelude.{true, false, cond, List, [], ◌∷◌, ◌↔◌, ◌≡◌, ℕ, ◌+◌, ◌-◌, ◌≤◌, ◌<◌, eqb, length, take, drop, get_or}
+use Rattle.std.specs.Prelude.{true, false, cond, List, [], ◌∷◌, ◌↔◌, ◌≡◌, ℕ, ◌+◌, ◌-◌, ◌≤◌, ◌<◌, eqb, length, take, drop, get_or, Err, Ok}
 use Rattle.std.proofs.Math.Path.{refl}
 use Rattle.std.proofs.Common.{◌∙◌, arith, length-drop, length-take-le, get_or-drop}
 use borrow.Author.Tests.{ne_eqb}
@@ -7,15 +7,12 @@ use Rattle.laws.specs.Cases.{decide}
 use Rattle.numbers.specs.FieldsLaws.{byte_at_lem}
 use Rattle.refusals.specs.InNumbers.{filled_number, filled_detail, filled_length}
 use Rattle.refusals.specs.Refusals.{Outcome, result, refused, refusal, answer_to, held_after}
-use Rattle.hextext.specs.declared.Record.TheVariants.{Fault}
 use Rattle.hextext.specs.Record.{record_bytes, count_of, formed}
 use Rattle.hextext.proofs.RecordLaws.{byte_at, all_digits_at, formed_digits, formed_length, record_bytes_head, judge_unformed}
 use Rattle.hextext.specs.Text.{bare}
 use Rattle.hextext.specs.Lines.{lines_of, line_inside, line_record}
 use Rattle.reading.specs.declared.Counts.{Counts}
 use Rattle.reading.specs.declared.Reading.{Reading}
-use Rattle.reading.specs.declared.Answer.TheVariants.{Shown, Refused}
-use Rattle.panel.specs.declared.identities.Identified.TheVariants.{Refused as NotKnown}
 use Rattle.panel.specs.Verdict.{verdict_of}
 use Rattle.panel.specs.Identified.{identified_by}
 use Rattle.panel.specs.Levels.{is_level}
@@ -92,7 +89,7 @@ module _ (text : List ℕ) (s : Standing) where
           rw (e, not-zero) (refl, refl, refl, refl)
 
 -- A line that can be good has 523 characters at most, with its line end: a longer one is a fault of form.
-pub longer_line_refused : (room at : ℕ) (line : List ℕ) → 523 < length line → line_record room at line ≡ Fault 1
+pub longer_line_refused : (room at : ℕ) (line : List ℕ) → 523 < length line → line_record room at line ≡ Err 1
 unfolding line_record line_inside
 longer_line_refused room at line h =
     decide (eqb (get_or line (length line - 1) 0) 10)
@@ -104,7 +101,7 @@ longer_line_refused room at line h =
 
 -- While a text is under way no panel of any level gives a reading by any part of the buffer from its start, for any counts.
 pub none_under_way : (pieces : List (List ℕ)) (s : Standing) (level n : ℕ) (counts : Counts)
-    → reading_of level (take n (lines_taken pieces (text_begun s)).buffer) counts ≡ Refused (cond (is_level level) (refusal 5 0) (refusal 20 0))
+    → reading_of level (take n (lines_taken pieces (text_begun s)).buffer) counts ≡ Err (cond (is_level level) (refusal 5 0) (refusal 20 0))
 none_under_way pieces s level n counts =
     let buffer : List ℕ = (lines_taken pieces (text_begun s)).buffer in
     let first : get_or buffer 0 0 ≡ 0 = rw (pieces_taken_lem s pieces) (of_first s.panel.level (length s.buffer) (comes_to (length s.buffer) pieces)) in
@@ -113,7 +110,7 @@ none_under_way pieces s level n counts =
 -- ---- all histories from power-on
 
 -- no image is of no gauge
-zeros_unknown : (level : ℕ) → identified_by level [] ≡ NotKnown (cond (is_level level) (refusal 5 0) (refusal 20 0))
+zeros_unknown : (level : ℕ) → identified_by level [] ≡ Err (cond (is_level level) (refusal 5 0) (refusal 20 0))
 unfolding identified_by verdict_of
 zeros_unknown level = decide (is_level level) (λ f. rw (f, layout_refused [] (byte_at_lem [] 0))) (λ f. rw f)
 
@@ -139,14 +136,14 @@ module _ (level n : ℕ) (buffer : List ℕ) (events : List Event) where
 
   -- After a refused or unfinished load there is none, until another load is accepted.
   pub no_reading_unlit : is_lit stands_after.panel ≡ false → (counts : Counts)
-      → reading_shown stands_after counts ≡ Refused (cond (is_level (level_kept level)) (refusal 5 0) (refusal 20 0))
+      → reading_shown stands_after counts ≡ Err (cond (is_level (level_kept level)) (refusal 5 0) (refusal 20 0))
   no_reading_unlit e counts = rw (e, level_by_last level n buffer events) (zeros_refused [] (byte_at_lem [] 0) (level_kept level) counts)
 
-  pub no_gauge_unlit : is_lit stands_after.panel ≡ false → gauge_told stands_after ≡ NotKnown (cond (is_level (level_kept level)) (refusal 5 0) (refusal 20 0))
+  pub no_gauge_unlit : is_lit stands_after.panel ≡ false → gauge_told stands_after ≡ Err (cond (is_level (level_kept level)) (refusal 5 0) (refusal 20 0))
   no_gauge_unlit e = rw (e, level_by_last level n buffer events) (zeros_unknown (level_kept level))
 
   -- A reading is shown only while the lamp is green.
-  pub shown_only_lit : (counts : Counts) (r : Reading) → reading_shown stands_after counts ≡ Shown r → is_lit stands_after.panel ≡ true
+  pub shown_only_lit : (counts : Counts) (r : Reading) → reading_shown stands_after counts ≡ Ok r → is_lit stands_after.panel ≡ true
   shown_only_lit counts r e =
       decide (is_lit stands_after.panel) (λ (lit : is_lit stands_after.panel ≡ true). lit)
       (λ (unlit : is_lit stands_after.panel ≡ false). let z : ◌≡◌ {A = ℕ} 0 1 = cc (e, no_reading_unlit unlit counts) in absurd (omega arith))

@@ -1,5 +1,5 @@
 -- Histories that meet the theorems on the lamp: good, then bad; good, then a text that stops; two gauges in turn.
-use Rattle.std.specs.Prelude.{true, false, ℕ, ◌≤◌, min, length}
+use Rattle.std.specs.Prelude.{true, false, ℕ, ◌≤◌, min, length, Err, Ok}
 use mathlib.Core.List.{List, [], ◌∷◌}
 use Rattle.std.proofs.Math.Path.{◌≡◌, refl}
 use native.Mathlib.Omega.{arith}
@@ -9,7 +9,6 @@ use Rattle.limits.specs.Limits.{largest_image}
 use Rattle.laws.specs.Bytes.{Bytes}
 use Rattle.laws.specs.Cases.{decide}
 use Rattle.laws.specs.Characters.{characters}
-use Rattle.refusals.specs.declared.Verdict.TheVariants.{Accepted}
 use Rattle.refusals.specs.Refusals.{result, refusal}
 use Rattle.hextext.specs.declared.Record.TheVariants.{Data}
 use Rattle.hextext.specs.Record.{digit, all_digits, bytes_of, record_bytes, formed, summed, line_of, typed, placed, judge}
@@ -21,7 +20,6 @@ use Rattle.hexformat.proofs.Agrees.{read_exactly}
 use Rattle.hexformat.proofs.RoundTrip.{written_reads_back}
 use Rattle.laws.specs.Sums.{total}
 use Rattle.reading.specs.declared.Counts.{Counts}
-use Rattle.reading.specs.declared.Answer.TheVariants.{Refused}
 use Rattle.panel.specs.Verdict.{verdict_of}
 use Rattle.panel.specs.Reading.{reading_of}
 use Rattle.lamp.specs.Panel.{is_lit}
@@ -37,7 +35,7 @@ use Rattle.promises.specs.Lamp.{stands_after, LastSays, lamp_exactly, reading_by
 -- a panel of level 2 with the largest buffer, and nothing kept
 module _ (buffer : List ℕ) (size : length buffer ≡ 4096) where
   -- the text that the writer makes of an accepted image says it
-  text_says : (image : List ℕ) → Bytes image → length image ≤ 4096 → verdict_of 2 image ≡ Accepted → TextSays 2 (length buffer) (text_of image) image
+  text_says : (image : List ℕ) → Bytes image → length image ≤ 4096 → verdict_of 2 image ≡ Ok tt → TextSays 2 (length buffer) (text_of image) image
   text_says image bytes small accepted =
       let read = (read_exactly (length buffer) (text_of image) image).0 (written_reads_back image bytes (length buffer) small (omega arith)) in
       (read.0, read.1, (verdict_accepted_exactly 2 image).0 accepted)
@@ -67,7 +65,7 @@ module _ (buffer : List ℕ) (size : length buffer ≡ 4096) where
 
   -- where no image is said there is no reading
   dark : (events : List Event) → ((image : List ℕ) → Not (LastSays 2 0 buffer events image)) → (counts : Counts)
-      → reading_shown (stands_after 2 0 buffer events) counts ≡ Refused (refusal 5 0)
+      → reading_shown (stands_after 2 0 buffer events) counts ≡ Err (refusal 5 0)
   dark events nothing counts =
       decide (is_lit (stands_after 2 0 buffer events).panel)
       (λ (lit : is_lit (stands_after 2 0 buffer events).panel ≡ true). let s = (lamp_exactly 2 0 buffer events).0 lit in absurd (nothing s.0 s.1))
@@ -80,7 +78,7 @@ module _ (buffer : List ℕ) (size : length buffer ≡ 4096) where
       let z : ◌≡◌ {A = ℕ} 0 1 = cc in
       omega arith
 
-  pub then_bad_dark : (counts : Counts) → reading_shown (stands_after 2 0 buffer then_bad) counts ≡ Refused (refusal 5 0)
+  pub then_bad_dark : (counts : Counts) → reading_shown (stands_after 2 0 buffer then_bad) counts ≡ Err (refusal 5 0)
   unfolding last_after
   then_bad_dark = dark then_bad empty_says_nothing
 
@@ -92,14 +90,14 @@ module _ (buffer : List ℕ) (size : length buffer ≡ 4096) where
   abbrev then_under_way : List Event
   then_under_way = loads (text_of worked_image) ∷ is_asked ∷ begins ∷ takes first_line ∷ is_asked ∷ []
 
-  pub then_under_way_dark : (counts : Counts) → reading_shown (stands_after 2 0 buffer then_under_way) counts ≡ Refused (refusal 5 0)
+  pub then_under_way_dark : (counts : Counts) → reading_shown (stands_after 2 0 buffer then_under_way) counts ≡ Err (refusal 5 0)
   unfolding last_after
   then_under_way_dark = dark then_under_way (λ image s. s)
 
   abbrev then_stops : List Event
   then_stops = loads (text_of worked_image) ∷ is_asked ∷ begins ∷ takes first_line ∷ ends ∷ is_asked ∷ []
 
-  first_line_good : line_record (min largest_image 4096) 0 first_line ≡ Data 2
+  first_line_good : line_record (min largest_image 4096) 0 first_line ≡ Ok (Data 2)
   unfolding line_record line_inside bare judge placed line_of typed formed summed all_digits digit bytes_of record_bytes total
   first_line_good = refl
 
@@ -110,5 +108,5 @@ module _ (buffer : List ℕ) (size : length buffer ≡ 4096) where
       let z : ◌≡◌ {A = ℕ} 0 1 = cc (rw (size, first_line_good) at e) in
       omega arith
 
-  pub then_stops_dark : (counts : Counts) → reading_shown (stands_after 2 0 buffer then_stops) counts ≡ Refused (refusal 5 0)
+  pub then_stops_dark : (counts : Counts) → reading_shown (stands_after 2 0 buffer then_stops) counts ≡ Err (refusal 5 0)
   then_stops_dark = dark then_stops stops_says_nothing

@@ -1,5 +1,5 @@
 -- A text taken line by line comes to what reading it whole comes to.
-use Rattle.std.specs.Prelude.{◌≡◌, true, false, ℕ, suc, ◌+◌, ◌-◌, min, length, take, get_or}
+use Rattle.std.specs.Prelude.{◌≡◌, true, false, ℕ, suc, ◌+◌, ◌-◌, min, length, take, get_or, Err, Ok}
 use Rattle.std.proofs.Math.Path.{refl, ap}
 use Rattle.std.proofs.Common.{sym, ◌∙◌, arith, length-append}
 use mathlib.Core.List.{List, [], ◌∷◌, ◌++◌, append_assoc}
@@ -11,8 +11,8 @@ use Rattle.laws.specs.Cases.{decide}
 use Rattle.laws.specs.Lists.{ends_with}
 use Rattle.refusals.specs.declared.Refusal.{Refusal}
 use Rattle.refusals.specs.Refusals.{result, refused, refusal}
-use Rattle.hextext.specs.declared.Record.{Record}
-use Rattle.hextext.specs.declared.Record.TheVariants.{Data, End, Fault}
+use Rattle.hextext.specs.Answers.{LineRecord}
+use Rattle.hextext.specs.declared.Record.TheVariants.{Data, End}
 use Rattle.hextext.specs.Record.{record_bytes, data_of, formed, judge}
 use Rattle.hextext.proofs.RecordLaws.{judge_unformed}
 use Rattle.hextext.specs.Text.{bare, after, reading, read_text}
@@ -55,7 +55,7 @@ no_line_feed_more l c h =
     let size : length (l ++ c ∷ []) - 1 ≡ length l = omega (arith, length-append l (c ∷ [])) in
     record { other = λ e. h (rw (size, get_or_at l c [] 0 (length l) refl) at e) }
 
-pub record_unended : (room at : ℕ) (l : List ℕ) → NoLineFeedLast l → line_record room at l ≡ Fault 1
+pub record_unended : (room at : ℕ) (l : List ℕ) → NoLineFeedLast l → line_record room at l ≡ Err 1
 unfolding line_record
 record_unended room at l h = rw (ne_eqb (get_or l (length l - 1) 0) 10 h.other)
 
@@ -83,14 +83,14 @@ module _ (room : ℕ) where
   Same k image passed text = at_end (after_lines room (lines_from passed text) (under_way k image)) ≡ reading room (k + 1) image passed text
 
   -- by the record of the line that ends here
-  same_after : (k : ℕ) (image bytes text : List ℕ) → Same (k + 1) (image ++ bytes) [] text → (record' : Record)
+  same_after : (k : ℕ) (image bytes text : List ℕ) → Same (k + 1) (image ++ bytes) [] text → (record' : LineRecord)
       → at_end (after_lines room (lines_from [] text) (after_record record' k image bytes))
       ≡ after record' (k + 1) image text (reading room (k + 1 + 1) (image ++ bytes) [] text)
   unfolding after lines_from after_lines
-  same_after k image bytes text h (Data n) = h
-  same_after k image bytes [] h End = refl
-  same_after k image bytes (c ∷ text) h End = goes_on room (k + 1) image [] c text
-  same_after k image bytes text h (Fault n) = ap at_end (stopped_stays room (lines_from [] text) (refusal n (k + 1)))
+  same_after k image bytes text h (Ok (Data n)) = h
+  same_after k image bytes [] h (Ok End) = refl
+  same_after k image bytes (c ∷ text) h (Ok End) = goes_on room (k + 1) image [] c text
+  same_after k image bytes text h (Err n) = ap at_end (stopped_stays room (lines_from [] text) (refusal n (k + 1)))
 
   same_from : (k : ℕ) (image passed text : List ℕ) → NoLineFeedLast passed → Same k image passed text
   unfolding lines_from after_lines after_line reading
@@ -114,13 +114,13 @@ lines_read size text = same_from (min largest_image size) 0 [] [] text no_line_f
 -- ---- any pieces
 
 -- what is not refused is a line with its LF, in the form of a record
-pub record IsLine (room at : ℕ) (line : List ℕ) (judged : Record) : Type 0 where
+pub record IsLine (room at : ℕ) (line : List ℕ) (judged : LineRecord) : Type 0 where
   pub inside : List ℕ
   pub is : line ≡ inside ++ 10 ∷ []
   pub no_line_feed : Without 10 inside
   pub says : judge room at (bare inside) ≡ judged
 
-is_line : (room at : ℕ) (line : List ℕ) (judged : Record) → line_record room at line ≡ judged → (judged ≡ Fault 1 → ⊥) → IsLine room at line judged
+is_line : (room at : ℕ) (line : List ℕ) (judged : LineRecord) → line_record room at line ≡ judged → (judged ≡ Err 1 → ⊥) → IsLine room at line judged
 unfolding line_record line_inside
 is_line room at line judged e good =
     decide (eqb (get_or line (length line - 1) 0) 10)
@@ -166,7 +166,7 @@ module _ (room : ℕ) (image : List ℕ) where
   pieces_from k x [] e = refused_not e
   pieces_from k x (line ∷ lines) e = by (λ h. pieces_from (k + 1) (x ++ line_data line) lines h) (line_record room (length x) line) refl
     where
-      read_on : (judged : Record) (l : IsLine room (length x) line judged) → reading room (k + 1) x [] (line ++ joined lines)
+      read_on : (judged : LineRecord) (l : IsLine room (length x) line judged) → reading room (k + 1) x [] (line ++ joined lines)
           ≡ after judged (k + 1) x (joined lines) (reading room (k + 1 + 1) (x ++ line_data line) [] (joined lines))
       read_on judged l =
           rw (
@@ -177,22 +177,22 @@ module _ (room : ℕ) (image : List ℕ) where
             inside_is l.inside,
           )
 
-      line_first : (judged : Record) → IsLine room (length x) line judged → lines_of (joined lines) ≡ lines → lines_of (line ++ joined lines) ≡ line ∷ lines
+      line_first : (judged : LineRecord) → IsLine room (length x) line judged → lines_of (joined lines) ≡ lines → lines_of (line ++ joined lines) ≡ line ∷ lines
       line_first judged l h =
           rw (l.is, append_assoc l.inside (10 ∷ []) (joined lines), lines_at_lf [] l.inside (joined lines) l.no_line_feed, h)
 
       by : (at_end (after_lines room lines (under_way (k + 1) (x ++ line_data line))) ≡ result image → ReadsAsLines (k + 1) (x ++ line_data line) lines)
-          → (judged : Record) → line_record room (length x) line ≡ judged → ReadsAsLines k x (line ∷ lines)
-      by rest (Fault n) q = stopped_not lines (refusal n (k + 1)) (rw q at e)
-      by rest (Data n) q =
-          let l = is_line room (length x) line (Data n) q (λ z. let w : ◌≡◌ {A = ℕ} 0 1 = cc in omega arith) in
+          → (judged : LineRecord) → line_record room (length x) line ≡ judged → ReadsAsLines k x (line ∷ lines)
+      by rest (Err n) q = stopped_not lines (refusal n (k + 1)) (rw q at e)
+      by rest (Ok (Data n)) q =
+          let l = is_line room (length x) line (Ok (Data n)) q (λ z. let w : ◌≡◌ {A = ℕ} 0 1 = cc in omega arith) in
           let r = rest (rw q at e) in
-          record { reads = read_on (Data n) l ∙ r.reads; are_lines = line_first (Data n) l r.are_lines }
-      by rest End q =
-          let l = is_line room (length x) line End q (λ z. let w : ◌≡◌ {A = ℕ} 0 1 = cc in omega arith) in
+          record { reads = read_on (Ok (Data n)) l ∙ r.reads; are_lines = line_first (Ok (Data n)) l r.are_lines }
+      by rest (Ok End) q =
+          let l = is_line room (length x) line (Ok End) q (λ z. let w : ◌≡◌ {A = ℕ} 0 1 = cc in omega arith) in
           let o = only_end (k + 1) x lines (rw q at e) in
           let none : joined lines ≡ [] = rw o.1 in
-          record { reads = rw (read_on End l, none, o.0); are_lines = line_first End l (rw o.1) }
+          record { reads = rw (read_on (Ok End) l, none, o.0); are_lines = line_first (Ok End) l (rw o.1) }
 
 module _ (size : ℕ) (pieces : List (List ℕ)) (image : List ℕ) (e : at_end (after_lines (min largest_image size) pieces (under_way 0 [])) ≡ result image) where
   -- pieces that come to an image are the lines of a text,

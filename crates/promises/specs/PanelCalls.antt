@@ -1,11 +1,10 @@
 -- The panel's calls: each is the event that its name says, by its own contract, and answers in document 01's numbers.
-use Rattle.std.specs.Prelude.{List, ◌≡◌, ℕ}
+use Rattle.std.specs.Prelude.{List, ◌≡◌, ℕ, Ok}
 use Rattle.std.proofs.Math.Path.{refl}
 use Rattle.paper.specs.Fields.{number}
 use Rattle.paper.specs.Table.{NoneGiven}
 use Rattle.paper.specs.Image.{HasBody}
 use Rattle.paper.specs.Verdict.{verdict_table}
-use Rattle.refusals.specs.declared.Verdict.TheVariants.{Accepted}
 use Rattle.calls.specs.Call.{EveryCall}
 use Rattle.bodies.specs.Identity.{identity_of}
 use Rattle.panel.specs.Verdict.{verdict_of}
@@ -75,7 +74,7 @@ module _ (level : ℕ) (image : List ℕ) (accepted : NoneGiven (verdict_table l
       × (gauge_day (identified_by level image) ≡ number 1 body 7)
   unfolding identified_by identity_of
   gauge_on_paper =
-      let said : verdict_of level image ≡ Accepted = (verdict_accepted_exactly level image).1 accepted in
+      let said : verdict_of level image ≡ (Ok tt) = (verdict_accepted_exactly level image).1 accepted in
       let good = (accepted_readable level image said).good in
       rw (said, had_is_found image 1 good body has, number_same) (refl, refl, refl, refl, refl)
 

@@ -1,10 +1,9 @@
 -- Readings of the worked image, by computation: examples/worked.py works out the same numbers after document 01 alone and prints
 -- the rows of both tables; docs/WORKED.md has them by their names. Pressures and temperatures are in 1/65,536.
-use Rattle.std.specs.Prelude.{List, [], ◌∷◌, ◌≡◌, refl, ℕ, ℤ, pos, neg_ℤ}
+use Rattle.std.specs.Prelude.{List, [], ◌∷◌, ◌≡◌, refl, ℕ, ℤ, pos, neg_ℤ, Err, Ok}
 use Rattle.laws.specs.Sums.{total}
 use Rattle.numbers.specs.Fields.{little_endian, number_at, twos_complement}
 use Rattle.whole.specs.Rounded.{rounded}
-use Rattle.refusals.specs.declared.Verdict.TheVariants.{Accepted, Refused as NotAccepted}
 use Rattle.refusals.specs.Refusals.{refusal}
 use Rattle.refusals.specs.FieldsVerdict.{fields_verdict, fields_from}
 use Rattle.image.specs.Contents.{start_verdict, count_verdict, lines_verdict, contents_verdict}
@@ -16,8 +15,7 @@ use Rattle.sets.specs.Set.{prescales_of, set_fields, row_from, rows_from, grid_o
 use Rattle.bodies.specs.Trim.{trim_of, trim_fields}
 use Rattle.bodies.specs.Note.{note_fields}
 use Rattle.reading.specs.declared.Counts.{Counts}
-use Rattle.reading.specs.declared.Answer.{Answer}
-use Rattle.reading.specs.declared.Answer.TheVariants.{Shown, Refused}
+use Rattle.reading.specs.Answers.{Answer}
 use Rattle.reading.specs.Value.{within}
 use Rattle.reading.specs.Frequency.{hertz, frequency_of, scaled_of, prescaled_of}
 use Rattle.reading.specs.Polynomial.{nested_sum, step_of, row_step, set_result}
@@ -110,26 +108,26 @@ untrimmed_sections = refl
 -- ---- verdicts
 
 -- level 2 knows all five kinds
-pub worked_accepted : verdict_of 2 worked_image ≡ Accepted
+pub worked_accepted : verdict_of 2 worked_image ≡ Ok tt
 unfolding worked_out
 worked_accepted = refl
 
 -- level 1 does not know the trim, and names it
-pub worked_refused : verdict_of 1 worked_image ≡ NotAccepted (refusal 9 4)
+pub worked_refused : verdict_of 1 worked_image ≡ Err (refusal 9 4)
 unfolding worked_out
 worked_refused = refl
 
 -- so that it reads nothing, whatever the counts
-pub worked_unread : (counts : Counts) → reading_of 1 worked_image counts ≡ Refused (refusal 9 4)
+pub worked_unread : (counts : Counts) → reading_of 1 worked_image counts ≡ Err (refusal 9 4)
 unfolding worked_out
 worked_unread counts = refl
 
 -- without the trim both levels accept
-pub untrimmed_accepted : verdict_of 1 untrimmed_image ≡ Accepted
+pub untrimmed_accepted : verdict_of 1 untrimmed_image ≡ Ok tt
 unfolding worked_out
 untrimmed_accepted = refl
 
-pub untrimmed_accepted_at_2 : verdict_of 2 untrimmed_image ≡ Accepted
+pub untrimmed_accepted_at_2 : verdict_of 2 untrimmed_image ≡ Ok tt
 unfolding worked_out
 untrimmed_accepted_at_2 = refl
 
@@ -160,10 +158,10 @@ shows counts bar psi temperature mark = record { counts = counts; bar = bar; psi
 
 -- level 2 shows the one of the worked image, level 1 the other of the image without its trim
 abbrev pub Shown2 : WorkedReading → Type 0
-Shown2 r = reading_of 2 worked_image r.counts ≡ Shown (record { pressure = r.bar; temperature = r.temperature; unit = 2; mark = r.mark })
+Shown2 r = reading_of 2 worked_image r.counts ≡ Ok (record { pressure = r.bar; temperature = r.temperature; unit = 2; mark = r.mark })
 
 abbrev pub Shown1 : WorkedReading → Type 0
-Shown1 r = reading_of 1 untrimmed_image r.counts ≡ Shown (record { pressure = r.psi; temperature = r.temperature; unit = 1; mark = r.mark })
+Shown1 r = reading_of 1 untrimmed_image r.counts ≡ Ok (record { pressure = r.psi; temperature = r.temperature; unit = 1; mark = r.mark })
 
 abbrev pub Each : {A : Type 0} → (A → Type 0) → List A → Type 0
 Each P [] = Unit {0}
@@ -230,7 +228,7 @@ abbrev pub refuses : Counts → (number detail : ℕ) → RefusedRow
 refuses counts number detail = record { counts = counts; number = number; detail = detail }
 
 abbrev pub IsRefused : RefusedRow → Type 0
-IsRefused r = reading_of 2 worked_image r.counts ≡ Refused (refusal r.number r.detail)
+IsRefused r = reading_of 2 worked_image r.counts ≡ Err (refusal r.number r.detail)
 
 abbrev pub refusals : List RefusedRow
 refusals =

@@ -1,5 +1,5 @@
 -- An answer as C gets it.
-use Rattle.reading.specs.declared.Answer.{Answer}
+use Rattle.reading.specs.Answers.{Answer}
 use Rattle.reading.specs.declared.for_c.AnswerForC.{AnswerForC}
 use Rattle.reading.specs.InNumbers.{answer_number, answer_detail, answer_pressure, answer_temperature, answer_unit, answer_mark}
 

@@ -1,12 +1,11 @@
 -- From counts to a frequency, and from a frequency to X.
-use Rattle.std.specs.Prelude.{cond, ◌&&◌, ℕ, ◌*◌, ◌^◌, leb, eqb, ℤ, pos, ◌-ℤ◌, ◌*ℤ◌}
+use Rattle.std.specs.Prelude.{cond, ◌&&◌, ℕ, ◌*◌, ◌^◌, leb, eqb, ℤ, pos, ◌-ℤ◌, ◌*ℤ◌, Ok}
 use Rattle.std.specs.Int.Signed.{le_z}
 use Rattle.limits.specs.Limits.{highest_frequency, largest_x}
 use Rattle.whole.specs.Rounded.{rounded}
 use Rattle.refusals.specs.Refusals.{ask}
 use Rattle.sets.specs.declared.Prescale.{Prescale}
-use Rattle.reading.specs.declared.value.Value.{Value}
-use Rattle.reading.specs.declared.value.Value.TheVariants.{Known}
+use Rattle.reading.specs.Answers.{Value}
 use Rattle.reading.specs.Value.{given, within}
 
 -- F, in 1/65,536 Hz, of NS sensor cycles and NR reference cycles: 21, 22, 23
@@ -18,7 +17,7 @@ frequency_of channel ns nr =
     given (ask (leb 1 ns && leb ns 1048576) 21 channel)
     (given (ask (leb 1 nr) 22 channel)
     (given (ask (le_z (pos 655360000) (hertz ns nr) && le_z (hertz ns nr) (pos highest_frequency)) 23 channel)
-    (Known (hertz ns nr))))
+    (Ok (hertz ns nr))))
 
 -- X = M × (F - F0) / 2^32 rounded; 2^24 stands for 1, and 24 is given beyond it
 unfoldable pub scaled_of : (detail multiplier : ℕ) → (difference : ℤ) → Value
@@ -27,4 +26,4 @@ scaled_of detail multiplier difference = within largest_x 24 detail (rounded (po
 -- where the order is 0 nothing is worked out: the coefficients that X would meet are absent, and 0 stands in
 unfoldable pub prescaled_of : (detail : ℕ) → Prescale → (frequency : ℤ) → Value
 prescaled_of detail prescale frequency =
-    cond (eqb prescale.order 0) (Known (pos 0)) (scaled_of detail prescale.multiplier (frequency -ℤ pos prescale.offset))
+    cond (eqb prescale.order 0) (Ok (pos 0)) (scaled_of detail prescale.multiplier (frequency -ℤ pos prescale.offset))

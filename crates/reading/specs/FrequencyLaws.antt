@@ -1,131 +1,118 @@
 -- A law for each return of `frequency` and of `prescaled`.
-use Rattle.std.specs.Prelude.{◌≡◌, true, false, ◌&&◌, ℕ, ◌-◌, ◌*◌, ◌/◌, ◌^◌, ◌≤◌, ◌<◌, leb, eqb, ℤ, pos, nat_abs, ◌-ℤ◌, ◌*ℤ◌}
-use Rattle.std.proofs.Math.Path.{ap}
-use Rattle.std.proofs.Common.{◌∙◌, div-lt_iff_lt-mul, le-div_iff_mul-le, mul-le-mul, mul-le-mul_right, lit<, SFits, to_z}
-use native.Mathlib.Omega.{arith}
-use borrow.Author.Tests.{le-leb, lt-leb, eq-eqb, ne_eqb}
+use Rattle.std.specs.Prelude.{◌≡◌, true, false, ◌&&◌, ◌⊎◌, ℕ, ◌-◌, ◌*◌, ◌^◌, ◌≤◌, ◌<◌, leb, eqb, ℤ, pos, negsuc, nat_abs, ◌-ℤ◌, ◌*ℤ◌, Err, Ok}
+use Rattle.std.proofs.Common.{sym, ap, ◌∙◌, inl, inr, mul-le-mul_right, lit<, leb-true, eqb-true, to_z, arith}
+use borrow.Author.Tests.{eq-eqb, ne_eqb}
+use Rattle.std.proofs.Math.Nat.{min-eq_left, min-eq_right}
 use Rattle.std.proofs.Math.IntN.{zero-*ℤ}
+use Rattle.std.specs.Int.{w64, saturate_signed}
 use Rattle.std.specs.Int.Signed.{le_z}
-use mir.Syntax.{w64}
 use Rattle.std.proofs.Math.Facts.{to_z_pos}
-use Rattle.limits.specs.Limits.{highest_frequency}
-use Rattle.laws.specs.Cases.{decide, positive, both_left, both_right}
-use Rattle.laws.specs.Magnitude.{magnitude_product, magnitude_difference, magnitude_difference_low}
-use Rattle.laws.specs.Order.{between}
-use Rattle.laws.specs.SignedBits.{fits_64}
+use Rattle.limits.specs.Limits.{highest_frequency, largest_x}
+use Rattle.laws.specs.Cases.{decide, never, positive, both_right, split}
+use Rattle.laws.specs.Magnitude.{magnitude_product}
 use Rattle.whole.specs.Rounded.{rounded}
 use Rattle.whole.specs.RoundedLaws.{rounded_low}
-use Rattle.refusals.specs.Refusals.{refusal, ask}
+use Rattle.refusals.specs.declared.Refusal.{Refusal}
+use Rattle.refusals.specs.Answers.{Verdict}
+use Rattle.refusals.specs.Refusals.{ask}
+use Rattle.refusals.specs.VerdictLaws.{asked}
 use Rattle.sets.specs.declared.Prescale.{Prescale}
-use Rattle.reading.specs.declared.value.Value.{Value}
-use Rattle.reading.specs.declared.value.Value.TheVariants.{Known, Refused}
-use Rattle.reading.specs.Value.{given, within}
-use Rattle.reading.specs.ValueLaws.{given_known, given_passed, within_beyond, within_says}
+use Rattle.reading.specs.Value.{within}
+use Rattle.reading.specs.ValueLaws.{check_refused, check_passed, within_beyond, within_says}
 use Rattle.reading.specs.Frequency.{hertz, frequency_of, scaled_of, prescaled_of}
 
 -- ---- a frequency
 
-module _ (channel ns nr : ℕ) {r : Value} where
-  pub no_cycles : r ≡ Refused (refusal 21 channel) → ns ≡ 0 → r ≡ frequency_of channel ns nr
-  unfolding frequency_of
-  no_cycles e z = let l : ns < 1 = omega arith in rw (lt-leb 1 ns l) e
+-- the code's check of sensor cycles
+module _ (channel ns nr : ℕ) {cycles : Verdict} (first : cycles ≡ ask (leb 1 ns && leb ns 1048576) 21 channel) where
+  pub few_cycles : cycles ≡ Ok tt → ns ≤ 1048576
+  few_cycles e = leb-true ns 1048576 (both_right (leb 1 ns) (leb ns 1048576) (asked (leb 1 ns && leb ns 1048576) 21 channel (sym first ∙ e)))
 
-  pub many_cycles : r ≡ Refused (refusal 21 channel) → 1048576 < ns → r ≡ frequency_of channel ns nr
+  pub cycles_refused : {r : Refusal} → cycles ≡ Err r → Err r ≡ frequency_of channel ns nr
   unfolding frequency_of
-  many_cycles e h = let l : 1 ≤ ns = omega arith in rw (le-leb 1 ns l, lt-leb ns 1048576 h) e
+  cycles_refused e = check_refused first _ e
 
-  module _ (some : ns ≡ 0 → ⊥) (few : ns ≤ 1048576) where
-    pub no_reference : r ≡ Refused (refusal 22 channel) → nr ≡ 0 → r ≡ frequency_of channel ns nr
+  -- then of reference cycles
+  module _ (c : cycles ≡ Ok tt) {reference : Verdict} (second : reference ≡ ask (leb 1 nr) 22 channel) where
+    pub reference_refused : {r : Refusal} → reference ≡ Err r → Err r ≡ frequency_of channel ns nr
     unfolding frequency_of
-    no_reference e z = let l : nr < 1 = omega arith in rw (le-leb 1 ns (positive some), le-leb ns 1048576 few, lt-leb 1 nr l) e
+    reference_refused e = check_passed first _ c (check_refused second _ e)
 
-    module _ (running : nr ≡ 0 → ⊥) (q : ℕ) (is : pos q ≡ rounded (pos (471859200000 * ns)) nr) where
-      pub too_slow : r ≡ Refused (refusal 23 channel) → q < 655360000 → r ≡ frequency_of channel ns nr
+    -- then of the frequency q
+    module _ (d : reference ≡ Ok tt) (q : ℕ) (is : pos q ≡ rounded (pos (471859200000 * ns)) nr) {v : Verdict}
+        (third : v ≡ ask (leb 655360000 q && leb q highest_frequency) 23 channel) where
+      third_asked : v ≡ ask (le_z (pos 655360000) (hertz ns nr) && le_z (hertz ns nr) (pos highest_frequency)) 23 channel
+      unfolding hertz
+      third_asked = rw (← is) third
+
+      pub frequency_refused : {r : Refusal} → v ≡ Err r → Err r ≡ frequency_of channel ns nr
+      unfolding frequency_of
+      frequency_refused e = check_passed first _ c (check_passed second _ d (check_refused third_asked _ e))
+
+      pub not_too_high : v ≡ Ok tt → q ≤ highest_frequency
+      not_too_high e =
+          leb-true q highest_frequency
+          (both_right (leb 655360000 q) (leb q highest_frequency) (asked (leb 655360000 q && leb q highest_frequency) 23 channel (sym third ∙ e)))
+
+      pub counted : v ≡ Ok tt → Ok (to_z w64 q) ≡ frequency_of channel ns nr
       unfolding frequency_of hertz
-      too_slow e h = rw (le-leb 1 ns (positive some), le-leb ns 1048576 few, le-leb 1 nr (positive running), ← is, lt-leb 655360000 q h) e
-
-      pub too_fast : r ≡ Refused (refusal 23 channel) → highest_frequency < q → r ≡ frequency_of channel ns nr
-      unfolding frequency_of hertz
-      too_fast e h =
-          let l : 655360000 ≤ q = omega arith in
-          rw (le-leb 1 ns (positive some), le-leb ns 1048576 few, le-leb 1 nr (positive running), ← is, le-leb 655360000 q l, lt-leb q highest_frequency h) e
-
-      pub counted : r ≡ Known (to_z w64 q) → 655360000 ≤ q → q ≤ highest_frequency → r ≡ frequency_of channel ns nr
-      unfolding frequency_of hertz
-      counted e h k =
-          let small : q < 2 ^ 63 = omega arith in
-          let read : r ≡ Known (pos q) = e ∙ ap Known (to_z_pos w64 small) in
-          rw (le-leb 1 ns (positive some), le-leb ns 1048576 few, le-leb 1 nr (positive running), ← is, le-leb 655360000 q h, le-leb q highest_frequency k) read
-
--- a frequency that is known is no higher than 23 allows
-pub frequency_bound : (channel ns nr : ℕ) (f : ℤ) → frequency_of channel ns nr ≡ Known f → nat_abs f ≤ highest_frequency
-unfolding frequency_of
-frequency_bound channel ns nr f e =
-    let low = le_z (pos 655360000) (hertz ns nr) in
-    let high = le_z (hertz ns nr) (pos highest_frequency) in
-    let counted = given (ask (low && high) 23 channel) (Known (hertz ns nr)) in
-    let running = given_known (ask (leb 1 ns && leb ns 1048576) 21 channel) (given (ask (leb 1 nr) 22 channel) counted) f e in
-    let known = given_known (ask (leb 1 nr) 22 channel) counted f running in
-    let same : hertz ns nr ≡ f = cc (given_known (ask (low && high) 23 channel) (Known (hertz ns nr)) f known) in
-    let range = given_passed (low && high) 23 channel (Known (hertz ns nr)) f known in
-    rw (← same) (between (hertz ns nr) 655360000 highest_frequency (both_left low high range) (both_right low high range))
+      counted e =
+          let small : q < 2 ^ 63 = omega (arith, not_too_high e) in
+          check_passed first _ c (check_passed second _ d (check_passed third_asked _ e (ap Ok (to_z_pos w64 small ∙ is))))
 
 -- ---- X
 
-module _ (detail multiplier : ℕ) (difference : ℤ) where
-  pub nothing_to_multiply : multiplier ≡ 0 → Known (pos 0) ≡ scaled_of detail multiplier difference
-  unfolding scaled_of within rounded
-  nothing_to_multiply e = rw (e, zero-*ℤ difference)
+-- the nearest number that has room in 64 bits: it is the number, or both are far from 0
+abbrev SameOrFar : (y z : ℤ) → Type 0
+SameOrFar y z = (y ≡ z) ⊎ ((2 ^ 62 ≤ nat_abs y) × (2 ^ 62 ≤ nat_abs z))
 
-  -- a product this far from zero need not be worked out
-  far : {r : Value} → r ≡ Refused (refusal 24 detail) → 2 ^ 57 < multiplier * nat_abs difference → r ≡ scaled_of detail multiplier difference
-  unfolding scaled_of
-  far e h =
-      let product = magnitude_product (pos multiplier) difference in
-      let low = rounded_low (2 ^ 32) (lit< tt) (pos multiplier *ℤ difference) in
-      e ∙ within_beyond (2 ^ 24) 24 detail (rounded (pos multiplier *ℤ difference) (2 ^ 32)) (omega arith)
+nearest : (z : ℤ) → SameOrFar (saturate_signed w64 z) z
+nearest (pos n) =
+    split n (2 ^ 63 - 1)
+    (λ (h : n ≤ 2 ^ 63 - 1). inl (rw (min-eq_left h)))
+    (λ (h : 2 ^ 63 - 1 < n). let l : 2 ^ 63 - 1 ≤ n = omega arith in inr (rw (min-eq_right l) (omega arith), omega arith))
+nearest (negsuc n) =
+    split n (2 ^ 63 - 1)
+    (λ (h : n ≤ 2 ^ 63 - 1). inl (rw (min-eq_left h)))
+    (λ (h : 2 ^ 63 - 1 < n). let l : 2 ^ 63 - 1 ≤ n = omega arith in inr (rw (min-eq_right l) (omega arith), omega arith))
 
-  pub near_fits : multiplier ≤ 2 ^ 30 → nat_abs difference < 2 ^ 33 → SFits w64 (pos multiplier *ℤ difference)
-  near_fits h k =
-      let l : nat_abs difference ≤ 2 ^ 33 - 1 = omega arith in
-      fits_64 (omega (arith, magnitude_product (pos multiplier) difference, mul-le-mul h l))
+-- their products with one multiplier are the same too, or both far from 0
+products : (m : ℕ) (y z : ℤ) → SameOrFar y z → SameOrFar (pos m *ℤ y) (pos m *ℤ z)
+products m y z (inl e) = inl (ap (λ (x : ℤ). pos m *ℤ x) e)
+products m y z (inr (far, further)) =
+    decide (eqb m 0)
+    (λ (none : eqb m 0 ≡ true). let e : m ≡ 0 = eqb-true m 0 none in inl (rw (e, zero-*ℤ y, zero-*ℤ z)))
+    (λ (some : eqb m 0 ≡ false).
+    let l : 1 ≤ m = positive (λ (e : m ≡ 0). never (sym some ∙ eq-eqb m 0 e)) in
+    inr
+    (omega (arith, magnitude_product (pos m) y, mul-le-mul_right (nat_abs y) l), omega (arith, magnitude_product (pos m) z, mul-le-mul_right (nat_abs z) l)))
 
-  module _ (some : multiplier ≡ 0 → ⊥) where
-    pub far_product : {r : Value} → r ≡ Refused (refusal 24 detail) → 2 ^ 57 / multiplier < nat_abs difference → r ≡ scaled_of detail multiplier difference
-    far_product e h = far e (omega (arith, (div-lt_iff_lt-mul {k = multiplier} {x = 2 ^ 57} {y = nat_abs difference} (positive some)).0 h))
-
-    pub far_difference : {r : Value} → r ≡ Refused (refusal 24 detail) → 2 ^ 57 < nat_abs difference → r ≡ scaled_of detail multiplier difference
-    far_difference e h = far e (omega (arith, mul-le-mul_right (nat_abs difference) (positive some)))
-
-    pub product_fits : nat_abs difference ≤ 2 ^ 57 / multiplier → SFits w64 (pos multiplier *ℤ difference)
-    product_fits h =
-        let small = (le-div_iff_mul-le {k = multiplier} {x = nat_abs difference} {y = 2 ^ 57} (positive some)).0 h in
-        fits_64 (omega (arith, magnitude_product (pos multiplier) difference, small))
+-- and so X is the same
+x_of_product : (detail : ℕ) (y z : ℤ) → SameOrFar y z
+    → within largest_x 24 detail (rounded y (2 ^ 32)) ≡ within largest_x 24 detail (rounded z (2 ^ 32))
+x_of_product detail y z (inl e) = rw e
+x_of_product detail y z (inr (far, further)) =
+    let a = rounded_low (2 ^ 32) (lit< tt) y in
+    let b = rounded_low (2 ^ 32) (lit< tt) z in
+    sym (within_beyond largest_x 24 detail (rounded y (2 ^ 32)) (omega arith)) ∙ within_beyond largest_x 24 detail (rounded z (2 ^ 32)) (omega arith)
 
 module _ (detail : ℕ) (p : Prescale) (f : ℤ) where
-  pub order_zero : p.order ≡ 0 → Known (pos 0) ≡ prescaled_of detail p f
+  pub order_zero : p.order ≡ 0 → Ok (pos 0) ≡ prescaled_of detail p f
   unfolding prescaled_of
   order_zero e = rw (eq-eqb p.order 0 e)
 
-  module _ (used : p.order ≡ 0 → ⊥) where
-    pub order_used : scaled_of detail p.multiplier (f -ℤ pos p.offset) ≡ prescaled_of detail p f
-    unfolding prescaled_of
-    order_used = rw (ne_eqb p.order 0 used)
-
-    pub no_multiplier : p.multiplier ≡ 0 → Known (pos 0) ≡ prescaled_of detail p f
-    no_multiplier e = nothing_to_multiply detail p.multiplier (f -ℤ pos p.offset) e ∙ order_used
-
-    pub far_offset : {r : Value} → r ≡ Refused (refusal 24 detail) → (p.multiplier ≡ 0 → ⊥) → nat_abs f ≤ highest_frequency → 2 ^ 62 < p.offset
-        → r ≡ prescaled_of detail p f
-    far_offset e some b h =
-        let apart = magnitude_difference_low f (pos p.offset) in
-        far_difference detail p.multiplier (f -ℤ pos p.offset) some e (omega arith) ∙ order_used
-
-pub difference_fits : (f : ℤ) (offset : ℕ) → nat_abs f ≤ highest_frequency → offset ≤ 2 ^ 62 → SFits w64 (f -ℤ pos offset)
-difference_fits f offset b h = fits_64 (omega (arith, magnitude_difference f (pos offset)))
+  pub order_used : (p.order ≡ 0 → ⊥)
+      → within largest_x 24 detail (rounded (saturate_signed w64 (pos p.multiplier *ℤ saturate_signed w64 (f -ℤ pos p.offset))) (2 ^ 32)) ≡ prescaled_of detail p f
+  unfolding prescaled_of scaled_of
+  order_used used =
+      let difference = f -ℤ pos p.offset in
+      let near = saturate_signed w64 difference in
+      rw (ne_eqb p.order 0 used)
+      (x_of_product detail (saturate_signed w64 (pos p.multiplier *ℤ near)) (pos p.multiplier *ℤ near) (nearest (pos p.multiplier *ℤ near))
+      ∙ x_of_product detail (pos p.multiplier *ℤ near) (pos p.multiplier *ℤ difference) (products p.multiplier near difference (nearest difference)))
 
 -- an X that is known is within its limit
-pub prescaled_bound : (detail : ℕ) (p : Prescale) (f x : ℤ) → prescaled_of detail p f ≡ Known x → nat_abs x ≤ 2 ^ 24
+pub prescaled_bound : (detail : ℕ) (p : Prescale) (f x : ℤ) → prescaled_of detail p f ≡ Ok x → nat_abs x ≤ 2 ^ 24
 unfolding prescaled_of scaled_of
 prescaled_bound detail p f x e =
     decide (eqb p.order 0)

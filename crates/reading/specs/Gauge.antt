@@ -3,7 +3,7 @@ use Rattle.std.specs.Prelude.{List, ℕ, ℤ}
 use Rattle.bodies.specs.declared.Identity.{Identity}
 use Rattle.sets.specs.declared.Prescales.{Prescales}
 use Rattle.sets.specs.Set.{prescales_of, grid_of}
-use Rattle.reading.specs.declared.Trimming.{Trimming}
+use Rattle.reading.specs.Answers.{Trimming}
 
 -- a set with its grid of coefficients
 pub record Set : Type 0 where

@@ -1,3 +1,4 @@
+pub mod Answers
 pub mod Value
 pub mod Gauge
 pub mod Frequency
@@ -5,8 +6,6 @@ pub mod Polynomial
 pub mod Measured
 pub mod InNumbers
 pub mod ForC
-pub mod PolynomialCuts
-pub mod MeasuredCuts
 pub mod ValueLaws
 pub mod FrequencyLaws
 pub mod PolynomialLaws

@@ -1,17 +1,12 @@
 -- Mark, trim, and the whole way from counts to an answer.
-use Rattle.std.specs.Prelude.{Bool, cond, ◌||◌, ℕ, ◌+◌, ◌^◌, leb, ℤ, pos, nat_abs, ◌+ℤ◌, ◌*ℤ◌}
+use Rattle.std.specs.Prelude.{Bool, cond, ◌||◌, ℕ, ◌+◌, ◌^◌, leb, ℤ, pos, nat_abs, ◌+ℤ◌, ◌*ℤ◌, Err, None, Ok, Some}
 use Rattle.std.specs.Int.Signed.{lt_z}
 use Rattle.whole.specs.Rounded.{rounded}
 use Rattle.refusals.specs.Refusals.{refusal}
 use Rattle.bodies.specs.declared.Identity.{Identity}
 use Rattle.bodies.specs.declared.Trim.{Trim}
 use Rattle.reading.specs.declared.Counts.{Counts}
-use Rattle.reading.specs.declared.Answer.{Answer}
-use Rattle.reading.specs.declared.Answer.TheVariants.{Shown, Refused}
-use Rattle.reading.specs.declared.Trimming.{Trimming}
-use Rattle.reading.specs.declared.Trimming.TheVariants.{Untrimmed, By}
-use Rattle.reading.specs.declared.value.Value.{Value}
-use Rattle.reading.specs.declared.value.Value.TheVariants.{Known, Refused as NotKnown}
+use Rattle.reading.specs.Answers.{Answer, Trimming, Value}
 use Rattle.reading.specs.Frequency.{frequency_of}
 use Rattle.reading.specs.Polynomial.{set_result}
 use Rattle.reading.specs.Gauge.{Gauge}
@@ -31,16 +26,16 @@ trimmed_by trim pressure = trim.zero +ℤ rounded (pos trim.span *ℤ pressure) 
 
 -- a zero beyond 2^40 is no right trim, which a verdict has told before
 unfoldable pub shown_by : Trimming → (pressure temperature : ℤ) → (mark : ℕ) → Answer
-shown_by Untrimmed pressure temperature mark = Shown (record { pressure = pressure; temperature = temperature; unit = 1; mark = mark })
-shown_by (By trim) pressure temperature mark =
+shown_by None pressure temperature mark = Ok (record { pressure = pressure; temperature = temperature; unit = 1; mark = mark })
+shown_by (Some trim) pressure temperature mark =
     cond (leb (nat_abs trim.zero) (2 ^ 40))
-    (Shown (record { pressure = trimmed_by trim pressure; temperature = temperature; unit = trim.unit; mark = mark }))
-    (Refused (refusal 15 0))
+    (Ok (record { pressure = trimmed_by trim pressure; temperature = temperature; unit = trim.unit; mark = mark }))
+    (Err (refusal 15 0))
 
 -- nothing is shown after a refusal
 abbrev pub and_show : Value → (ℤ → Answer) → Answer
-and_show (Known z) next = next z
-and_show (NotKnown r) next = Refused r
+and_show (Ok z) next = next z
+and_show (Err r) next = Err r
 
 -- the frequency of the pressure channel, then of the temperature channel, then the pressure set, then the temperature set, then
 -- what is shown

@@ -1,38 +1,36 @@
 -- From frequencies and results to an answer, as the code has them two at a time; laws of mark and trim.
-use Rattle.std.specs.Prelude.{◌≡◌, Bool, true, false, cond, ℕ, ◌+◌, ◌*◌, ◌^◌, ◌≤◌, ℤ, pos, nat_abs, ◌+ℤ◌, ◌*ℤ◌}
-use Rattle.std.proofs.Common.{sym, ap, arith, lit<, lit≤, SFits}
+use Rattle.std.specs.Prelude.{◌≡◌, refl, Bool, true, false, cond, ℕ, ◌+◌, ◌*◌, ◌^◌, ◌≤◌, leb, ℤ, pos, nat_abs, ◌+ℤ◌, ◌*ℤ◌, Err, None, Ok, Some}
+use Rattle.std.proofs.Common.{sym, ◌∙◌, arith, lit<, lit≤, leb-true, SFits}
 use Rattle.std.specs.Int.Signed.{lt_z, nat_abs-le}
 use Rattle.std.specs.Int.{w32, w64}
-use Rattle.limits.specs.Limits.{highest_frequency, largest_result}
+use mir.Val.{bool_byte}
+use Rattle.limits.specs.Limits.{largest_result}
 use Rattle.laws.specs.Magnitude.{magnitude_product_le, magnitude_sum}
 use Rattle.laws.specs.SignedBits.{fits_64}
 use Rattle.whole.specs.Rounded.{rounded}
 use Rattle.whole.specs.RoundedLaws.{rounded_high}
 use Rattle.refusals.specs.declared.Refusal.{Refusal}
+use Rattle.refusals.specs.Answers.{Verdict}
+use Rattle.refusals.specs.Refusals.{refusal, ask}
+use Rattle.refusals.specs.VerdictLaws.{asked, never_both}
 use Rattle.bodies.specs.declared.Identity.{Identity}
-use Rattle.reading.specs.declared.Answer.{Answer}
-use Rattle.reading.specs.declared.Answer.TheVariants.{Refused as NotShown}
-use Rattle.reading.specs.declared.value.Value.{Value}
-use Rattle.reading.specs.declared.value.Value.TheVariants.{Known, Refused}
-use Rattle.reading.specs.declared.Counts.{Counts}
-use Rattle.reading.specs.declared.value.Both.TheVariants.{Known as BothKnown, Refused as NotBoth}
-use Rattle.reading.specs.Value.{with_value, both_of}
-use Rattle.reading.specs.ValueLaws.{within_says, both_known}
-use Rattle.reading.specs.Frequency.{frequency_of, prescaled_of}
-use Rattle.reading.specs.FrequencyLaws.{frequency_bound}
-use Rattle.reading.specs.Gauge.{Set, Gauge}
+use Rattle.bodies.specs.declared.Trim.{Trim}
+use Rattle.reading.specs.Answers.{Answer, Trimming, Value}
+use Rattle.reading.specs.Value.{with_value}
+use Rattle.reading.specs.ValueLaws.{within_says}
+use Rattle.reading.specs.Frequency.{prescaled_of}
+use Rattle.reading.specs.Gauge.{Set}
 use Rattle.reading.specs.Polynomial.{grid_sum, set_result}
-use Rattle.reading.specs.Measured.{outside, mark_of, shown_by, and_show, measured_of}
-use Rattle.reading.specs.MeasuredCuts.{frequencies_of, results_of}
+use Rattle.reading.specs.Measured.{outside, mark_of, trimmed_by, shown_by, and_show}
 
 -- ---- a set's result that is known is within its limit
 
-with_bound : (v : Value) (next : ℤ → Value) (z : ℤ) (most : ℕ) → ((y : ℤ) → next y ≡ Known z → nat_abs z ≤ most) → with_value v next ≡ Known z
+with_bound : (v : Value) (next : ℤ → Value) (z : ℤ) (most : ℕ) → ((y : ℤ) → next y ≡ Ok z → nat_abs z ≤ most) → with_value v next ≡ Ok z
     → nat_abs z ≤ most
-with_bound (Known y) next z most h e = h y e
-with_bound (Refused r) next z most h e = let n : ◌≡◌ {A = ℕ} 0 1 = cc in absurd (omega arith)
+with_bound (Ok y) next z most h e = h y e
+with_bound (Err r) next z most h e = let n : ◌≡◌ {A = ℕ} 0 1 = cc in absurd (omega arith)
 
-pub set_bound : (kind first : ℕ) (set : Set) (fp ft z : ℤ) → set_result kind first set fp ft ≡ Known z → nat_abs z ≤ largest_result
+pub set_bound : (kind first : ℕ) (set : Set) (fp ft z : ℤ) → set_result kind first set fp ft ≡ Ok z → nat_abs z ≤ largest_result
 unfolding set_result
 set_bound kind first set fp ft z e =
     with_bound (prescaled_of first set.prescales.pressure fp) _ z largest_result
@@ -41,43 +39,14 @@ set_bound kind first set fp ft z e =
     (λ sum f. (within_says largest_result 26 kind sum z f).1)))
     e
 
--- ---- from two values at a time to an answer
+-- ---- how code comes to an answer, where it stops at the first refusal: v is its value
 
-both_refused : (v w : Value) (next : ℤ → ℤ → Answer) (r : Refusal) → both_of v w ≡ NotBoth r → NotShown r ≡ and_show v (λ p. and_show w (λ t. next p t))
-unfolding both_of
-both_refused (Refused x) w next r e = ap NotShown (sym (cc e))
-both_refused (Known p) (Refused x) next r e = ap NotShown (sym (cc e))
-both_refused (Known p) (Known t) next r e = let n : ◌≡◌ {A = ℕ} 0 1 = cc in absurd (omega arith)
+module _ {v w : Value} (is : v ≡ w) where
+  pub none_shown : {r : Refusal} (next : ℤ → Answer) → v ≡ Err r → Err r ≡ and_show w next
+  none_shown next e = rw (← is, e)
 
-module _ (counts : Counts) (gauge : Gauge) where
-  pub no_frequencies : (r : Refusal) → frequencies_of counts ≡ NotBoth r → NotShown r ≡ measured_of counts gauge
-  unfolding measured_of frequencies_of
-  no_frequencies r e = both_refused (frequency_of 1 _ _) (frequency_of 2 _ _) _ r e
-
-  module _ (fp ft : ℤ) (f : frequencies_of counts ≡ BothKnown fp ft) where
-    pub frequencies_bound : (nat_abs fp ≤ highest_frequency) × (nat_abs ft ≤ highest_frequency)
-    unfolding frequencies_of
-    frequencies_bound =
-        let known = both_known (frequency_of 1 _ _) (frequency_of 2 _ _) fp ft f in
-        (frequency_bound 1 _ _ fp known.0, frequency_bound 2 _ _ ft known.1)
-
-    pub no_results : (r : Refusal) → results_of gauge.pressure_set gauge.temperature_set fp ft ≡ NotBoth r → NotShown r ≡ measured_of counts gauge
-    unfolding measured_of frequencies_of results_of
-    no_results r e =
-        let known = both_known (frequency_of 1 _ _) (frequency_of 2 _ _) fp ft f in
-        rw (known.0, known.1) (both_refused (set_result 2 1 gauge.pressure_set fp ft) (set_result 3 3 gauge.temperature_set fp ft) _ r e)
-
-    module _ (pressure temperature : ℤ) (e : results_of gauge.pressure_set gauge.temperature_set fp ft ≡ BothKnown pressure temperature) where
-      pub result_bound : nat_abs pressure ≤ largest_result
-      unfolding results_of
-      result_bound = set_bound 2 1 gauge.pressure_set fp ft pressure (both_known _ (set_result 3 3 gauge.temperature_set fp ft) pressure temperature e).0
-
-      pub measured_shown : shown_by gauge.trimming pressure temperature (mark_of gauge.identity pressure temperature) ≡ measured_of counts gauge
-      unfolding measured_of frequencies_of results_of
-      measured_shown =
-          let known = both_known (frequency_of 1 _ _) (frequency_of 2 _ _) fp ft f in
-          let both = both_known (set_result 2 1 gauge.pressure_set fp ft) (set_result 3 3 gauge.temperature_set fp ft) pressure temperature e in
-          rw (known.0, known.1, both.0, both.1)
+  pub next_shown : {z : ℤ} {answer : Answer} (next : ℤ → Answer) → v ≡ Ok z → answer ≡ next z → answer ≡ and_show w next
+  next_shown next e f = rw (← is, e) f
 
 -- ---- mark
 
@@ -99,10 +68,16 @@ module _ (z low high : ℤ) where
 
 -- the mark by its two tests
 module _ (identity : Identity) (pressure temperature : ℤ) where
-  pub mark_is : (p t : Bool) → t ≡ outside temperature identity.tmin identity.tmax → p ≡ outside pressure identity.pmin identity.pmax
-      → cond t 1 0 + cond p 2 0 ≡ mark_of identity pressure temperature
+  pub mark_is : (p t : Bool) {m n : ℕ} → t ≡ outside temperature identity.tmin identity.tmax → p ≡ outside pressure identity.pmin identity.pmax
+      → m ≡ bool_byte t → n ≡ bool_byte p → m + 2 * n ≡ mark_of identity pressure temperature
   unfolding mark_of
-  mark_is p t e f = rw (e, f)
+  mark_is p t e f g h = rw (g, h, ← e, ← f) (worth t p)
+    where
+      worth : (t p : Bool) → bool_byte t + 2 * bool_byte p ≡ cond t 1 0 + cond p 2 0
+      worth true true = refl
+      worth true false = refl
+      worth false true = refl
+      worth false false = refl
 
 -- ---- trim
 
@@ -117,3 +92,28 @@ module _ (span : ℕ) (pressure : ℤ) (hs : span ≤ 4294967295) (hp : nat_abs 
   trim_sum_fits zero h =
       let b : nat_abs (pos span *ℤ pressure) ≤ 2 ^ 35 * 2 ^ 28 = omega (arith, product_small) in
       fits_64 (omega (arith, rounded_high (2 ^ 28) (lit< tt) (pos span *ℤ pressure) (2 ^ 35) b, magnitude_sum zero (rounded (pos span *ℤ pressure) (2 ^ 28))))
+
+-- a check that refuses
+unasked : (holds : Bool) (number detail : ℕ) {r : Refusal} → ask holds number detail ≡ Err r → (holds ≡ false) × (r ≡ refusal number detail)
+unasked true number detail e = never_both e refl
+unasked false number detail e = (refl, sym (cc e))
+
+-- a zero that the code's check passes
+pub zero_near : (zero : ℤ) {v : Verdict} → v ≡ ask (leb (nat_abs zero) (2 ^ 40)) 15 0 → v ≡ Ok tt → nat_abs zero ≤ 2 ^ 40
+zero_near zero is e = leb-true (nat_abs zero) (2 ^ 40) (asked (leb (nat_abs zero) (2 ^ 40)) 15 0 (sym is ∙ e))
+
+-- what is shown, by whether there is a trim, and by the code's check of its zero
+module _ (trim : Trimming) (pressure temperature : ℤ) (mark : ℕ) where
+  pub untrimmed_shown : trim ≡ None → Ok (record { pressure = pressure; temperature = temperature; unit = 1; mark = mark }) ≡ shown_by trim pressure temperature mark
+  unfolding shown_by
+  untrimmed_shown e = rw e
+
+  module _ {some : Trim} (e : trim ≡ Some some) {v : Verdict} (is : v ≡ ask (leb (nat_abs some.zero) (2 ^ 40)) 15 0) where
+    pub zero_refused : {r : Refusal} → v ≡ Err r → Err r ≡ shown_by trim pressure temperature mark
+    unfolding shown_by
+    zero_refused f = let u = unasked (leb (nat_abs some.zero) (2 ^ 40)) 15 0 (sym is ∙ f) in rw (e, u.0, u.1)
+
+    pub trimmed_shown : v ≡ Ok tt
+        → Ok (record { pressure = trimmed_by some pressure; temperature = temperature; unit = some.unit; mark = mark }) ≡ shown_by trim pressure temperature mark
+    unfolding shown_by
+    trimmed_shown f = rw (e, asked (leb (nat_abs some.zero) (2 ^ 40)) 15 0 (sym is ∙ f))

@@ -1,16 +1,15 @@
 -- The sum of a set: each row in XT, then the rows' sums in XP. `kind` is the set's, 2 or 3.
-use Rattle.std.specs.Prelude.{List, [], ◌∷◌, ℕ, ◌+◌, ◌^◌, ℤ, pos, ◌+ℤ◌, ◌*ℤ◌}
+use Rattle.std.specs.Prelude.{List, [], ◌∷◌, ℕ, ◌+◌, ◌^◌, ℤ, pos, ◌+ℤ◌, ◌*ℤ◌, Ok}
 use Rattle.limits.specs.Limits.{largest_sum, largest_result}
 use Rattle.whole.specs.Rounded.{rounded}
-use Rattle.reading.specs.declared.value.Value.{Value}
-use Rattle.reading.specs.declared.value.Value.TheVariants.{Known}
+use Rattle.reading.specs.Answers.{Value}
 use Rattle.reading.specs.Value.{with_value, within}
 use Rattle.reading.specs.Frequency.{prescaled_of}
 use Rattle.reading.specs.Gauge.{Set}
 
 -- a nested sum, from the last term down to the first; the sum of none is 0, so that the last term's step gives the term itself
 unfoldable pub nested_sum : {Term : Type 0} → (step : Term → (sum : ℤ) → Value) → List Term → Value
-nested_sum step [] = Known (pos 0)
+nested_sum step [] = Ok (pos 0)
 nested_sum step (term ∷ terms) = with_value (nested_sum step terms) (step term)
 
 -- the next lower coefficient plus (running sum × x / 2^24) rounded: 25

@@ -1,11 +1,15 @@
 -- Laws of the running sums: one step, a nested sum from a place on, and a row of zeros.
-use Rattle.std.specs.Prelude.{◌≡◌, refl, Bool, true, List, [], ◌∷◌, pos, ◌+ℤ◌, ◌*ℤ◌, drop, get_or, replicate}
+use Rattle.std.specs.Prelude.{◌≡◌, refl, Bool, true, List, [], ◌∷◌, reverse, pos, ◌+ℤ◌, ◌*ℤ◌, drop, get_or, replicate, Err, Ok}
 use Rattle.std.proofs.Math.Path.{sym}
-use Rattle.std.proofs.Common.{ap, ◌∙◌, le_refl, lit<, drop_of_length-le, drop-cons, SFits, to_z, of_z, to_z-of_z}
-use Prim.Native.Nat.{ℕ, zero, suc, ◌-◌, ◌*◌, ◌^◌, ◌≤◌, ◌<◌}
+use Rattle.std.proofs.Common.{ap, ◌∙◌, lit<, drop_of_length-le, drop-cons, SFits, to_z, of_z, to_z-of_z}
+use Rattle.std.specs.Ordering.{int_eq}
+use Rattle.std.specs.List.{list_all}
+use Rattle.std.proofs.lemmas.Bool.Decides.{Decides-int_eq}
+use Rattle.laws.specs.Cases.{both_left, both_right}
+use Rattle.std.proofs.lemmas.List.{get_or-reverse, length-reverse}
+use Prim.Native.Nat.{ℕ, zero, suc, ◌+◌, ◌-◌, ◌*◌, ◌^◌, ◌≤◌, ◌<◌}
 use native.Mathlib.Omega.{arith}
 use Rattle.std.proofs.Math.IntN.{ℤ, nat_abs, zero-*ℤ}
-use Rattle.std.specs.Int.Signed.{mag}
 use Rattle.std.proofs.Math.ListN.{length}
 use Rattle.std.specs.Int.{w64}
 use Rattle.limits.specs.Limits.{largest_x, largest_sum}
@@ -16,8 +20,7 @@ use Rattle.whole.specs.RoundedLaws.{rounded_high, rounded_nothing}
 use Rattle.whole.specs.Wrapped.{wrapped}
 use Rattle.whole.specs.WrappedLaws.{wrapped_or_far}
 use Rattle.refusals.specs.declared.Refusal.{Refusal}
-use Rattle.reading.specs.declared.value.Value.{Value}
-use Rattle.reading.specs.declared.value.Value.TheVariants.{Known, Refused}
+use Rattle.reading.specs.Answers.{Value}
 use Rattle.reading.specs.Value.{with_value, within}
 use Rattle.reading.specs.ValueLaws.{within_beyond, within_says}
 use Rattle.reading.specs.Polynomial.{nested_sum, step_of, row_sum, row_step}
@@ -44,69 +47,72 @@ module _ (sum x : ℤ) (hs : nat_abs sum ≤ largest_sum) (hx : nat_abs x ≤ la
       (λ (far : 2 ^ 62 ≤ nat_abs (c +ℤ turn)) (left : 2 ^ 62 ≤ nat_abs (wrapped (c +ℤ turn))).
       sym (within_beyond largest_sum 25 kind (wrapped (c +ℤ turn)) (omega arith)) ∙ within_beyond largest_sum 25 kind (c +ℤ turn) (omega arith))
 
-pub step_bound : (kind : ℕ) (x c sum next : ℤ) → step_of kind x c sum ≡ Known next → nat_abs next ≤ largest_sum
+pub step_bound : (kind : ℕ) (x c sum next : ℤ) → step_of kind x c sum ≡ Ok next → nat_abs next ≤ largest_sum
 unfolding step_of
 step_bound kind x c sum next e = (within_says largest_sum 25 kind (c +ℤ rounded (sum *ℤ x) (2 ^ 24)) next e).1
 
-pub row_step_bound : (kind : ℕ) (xp xt : ℤ) (row : List ℤ) (sum next : ℤ) → row_step kind xp xt row sum ≡ Known next → nat_abs next ≤ largest_sum
+pub row_step_bound : (kind : ℕ) (xp xt : ℤ) (row : List ℤ) (sum next : ℤ) → row_step kind xp xt row sum ≡ Ok next → nat_abs next ≤ largest_sum
 unfolding row_step
 row_step_bound kind xp xt row sum next e = by (row_sum kind xt row) e
   where
-    by : (v : Value) → with_value v (λ c. step_of kind xp c sum) ≡ Known next → nat_abs next ≤ largest_sum
-    by (Known c) q = step_bound kind xp c sum next q
-    by (Refused r) q = let n : ◌≡◌ {A = ℕ} 0 1 = cc in absurd (omega arith)
+    by : (v : Value) → with_value v (λ c. step_of kind xp c sum) ≡ Ok next → nat_abs next ≤ largest_sum
+    by (Ok c) q = step_bound kind xp c sum next q
+    by (Err r) q = let n : ◌≡◌ {A = ℕ} 0 1 = cc in absurd (omega arith)
 
--- ---- a nested sum from its i-th term on, as both loops keep it
+-- ---- a nested sum, as both loops keep it: they take the terms from the last on
 
-pub record SumFrom {Term : Type 0} (step : Term → ℤ → Value) (terms : List Term) (i : ℕ) (sum : ℤ) : Type 0 where
-  pub inside : i ≤ length terms
-  pub is : nested_sum step (drop i terms) ≡ Known sum
+-- the sum of the last n terms
+pub record SumOfLast {Term : Type 0} (step : Term → ℤ → Value) (terms : List Term) (n : ℕ) (sum : ℤ) : Type 0 where
+  pub is : nested_sum step (drop (length terms - n) terms) ≡ Ok sum
   pub small : nat_abs sum ≤ largest_sum
 
 -- a refusal among the last terms is the sum's
-sum_stops : {Term : Type 0} (step : Term → ℤ → Value) (terms : List Term) (i : ℕ) (r : Refusal) → nested_sum step (drop i terms) ≡ Refused r
-    → nested_sum step terms ≡ Refused r
+sum_stops : {Term : Type 0} (step : Term → ℤ → Value) (terms : List Term) (i : ℕ) (r : Refusal) → nested_sum step (drop i terms) ≡ Err r
+    → nested_sum step terms ≡ Err r
 unfolding nested_sum
 sum_stops step terms zero r e = e
 sum_stops step [] (suc i) r e = e
 sum_stops step (term ∷ terms) (suc i) r e = rw (sum_stops step terms i r e)
 
 module _ {Term : Type 0} (step : Term → ℤ → Value) (terms : List Term) where
-  pub sum_first : (i : ℕ) → length terms ≡ i → SumFrom step terms i (pos 0)
+  pub sum_of_none : SumOfLast step terms 0 (pos 0)
   unfolding nested_sum
-  sum_first i e =
-      let past : length terms ≤ i = omega arith in
-      record { inside = omega arith; is = rw (drop_of_length-le terms past); small = omega arith }
+  sum_of_none =
+      let past : length terms ≤ length terms - 0 = omega arith in
+      record { is = rw (drop_of_length-le terms past); small = omega arith }
 
-  pub sum_all : (i : ℕ) (sum : ℤ) → SumFrom step terms i sum → i ≤ 0 → Known sum ≡ nested_sum step terms
-  sum_all i sum k h = let e : i ≡ 0 = omega arith in sym (rw e at k.is)
+  pub sum_of_all : (n : ℕ) (sum : ℤ) → SumOfLast step terms n sum → n ≡ length (reverse terms) → Ok sum ≡ nested_sum step terms
+  sum_of_all n sum k e = let none : length terms - n ≡ 0 = omega (arith, length-reverse terms) in sym (rw none at k.is)
 
-  -- one term more
-  module _ (none : Term) {term : Term} (i : ℕ) (sum : ℤ) (k : SumFrom step terms i sum) (h : 0 < i) (at : term ≡ get_or terms (i - 1) none)
+  -- one term more, whose place is counted from the last on
+  module _ {term : Term} (n : ℕ) (sum : ℤ) (k : SumOfLast step terms n sum) (turn : (n < length (reverse terms)) × (term ≡ get_or (reverse terms) n term))
       {v : Value} (next : v ≡ step term sum) where
-    earlier : nested_sum step (drop (i - 1) terms) ≡ v
+    earlier : nested_sum step (drop (length terms - (n + 1)) terms) ≡ v
     unfolding nested_sum
     earlier =
-        let e : suc (i - 1) ≡ i = omega arith in
-        let rest : nested_sum step (drop (suc (i - 1)) terms) ≡ Known sum = rw e k.is in
-        rw (drop-cons terms (i - 1) none (omega (arith, k.inside)), rest, ← at) (sym next)
+        let there : n < length terms = omega (arith, turn.0, length-reverse terms) in
+        let after : length terms - n ≡ suc (length terms - (n + 1)) = omega arith in
+        let place : length terms - 1 - n ≡ length terms - (n + 1) = omega arith in
+        let rest : nested_sum step (drop (suc (length terms - (n + 1))) terms) ≡ Ok sum = rw after at k.is in
+        let at : term ≡ get_or terms (length terms - (n + 1)) term = rw place at (turn.1 ∙ get_or-reverse terms n term there) in
+        rw (drop-cons terms (length terms - (n + 1)) term (omega arith), rest, ← at) (sym next)
 
-    pub sum_more : (z : ℤ) → v ≡ Known z → nat_abs z ≤ largest_sum → SumFrom step terms (i - 1) z
-    sum_more z e small = record { inside = omega (arith, k.inside); is = earlier ∙ e; small = small }
+    pub sum_of_more : (z : ℤ) → v ≡ Ok z → nat_abs z ≤ largest_sum → SumOfLast step terms (n + 1) z
+    sum_of_more z e small = record { is = earlier ∙ e; small = small }
 
-    pub sum_refused : (r : Refusal) → v ≡ Refused r → Refused r ≡ nested_sum step terms
-    sum_refused r e = sym (sum_stops step terms (i - 1) r (earlier ∙ e))
+    pub sum_refused : (r : Refusal) → v ≡ Err r → Err r ≡ nested_sum step terms
+    sum_refused r e = sym (sum_stops step terms (length terms - (n + 1)) r (earlier ∙ e))
 
 -- ---- a row of zeros under no sum adds nothing
 
 pub nothing_turned : (x : ℤ) → rounded (pos 0 *ℤ x) (2 ^ 24) ≡ pos 0
 nothing_turned x = rw (zero-*ℤ x) (rounded_nothing (2 ^ 24) (lit< tt))
 
-step_of_nothing : (kind : ℕ) (x : ℤ) → step_of kind x (pos 0) (pos 0) ≡ Known (pos 0)
+step_of_nothing : (kind : ℕ) (x : ℤ) → step_of kind x (pos 0) (pos 0) ≡ Ok (pos 0)
 unfolding step_of within
 step_of_nothing kind x = rw (nothing_turned x)
 
-row_of_zeros : (kind : ℕ) (x : ℤ) (n : ℕ) → row_sum kind x (replicate n (pos 0)) ≡ Known (pos 0)
+row_of_zeros : (kind : ℕ) (x : ℤ) (n : ℕ) → row_sum kind x (replicate n (pos 0)) ≡ Ok (pos 0)
 unfolding nested_sum
 row_of_zeros kind x zero = refl
 row_of_zeros kind x (suc n) = rw (row_of_zeros kind x n) (step_of_nothing kind x)
@@ -115,29 +121,16 @@ row_of_zeros kind x (suc n) = rw (row_of_zeros kind x n) (step_of_nothing kind x
 no_bits : (z : ℤ) → SFits w64 z → of_z w64 z ≡ 0 → z ≡ pos 0
 no_bits z f e = sym (to_z-of_z f) ∙ ap (to_z w64) e
 
-pub row_adds_nothing : (kind : ℕ) (xp xt : ℤ) (row : List ℤ) (sum : ℤ) (b : Bool) → b ≡ true → (b ≡ true → row ≡ replicate 5 (pos 0))
-    → of_z w64 sum ≡ 0 → SFits w64 sum → Known (pos 0) ≡ row_step kind xp xt row sum
+-- a row that passes the code's test holds zeros
+zeros_of : (row : List ℤ) → list_all (λ z. int_eq z (pos 0)) row ≡ true → row ≡ replicate (length row) (pos 0)
+zeros_of [] e = refl
+zeros_of (z ∷ row) e =
+    let first = both_left (int_eq z (pos 0)) (list_all (λ z. int_eq z (pos 0)) row) e in
+    let rest = both_right (int_eq z (pos 0)) (list_all (λ z. int_eq z (pos 0)) row) e in
+    rw ((Decides-int_eq z (pos 0)).0 first) (ap (λ (l : List ℤ). pos 0 ∷ l) (zeros_of row rest))
+
+pub row_adds_nothing : (kind : ℕ) (xp xt : ℤ) (row : List ℤ) (sum : ℤ) (b : Bool) → b ≡ list_all (λ z. int_eq z (pos 0)) row → b ≡ true
+    → of_z w64 sum ≡ 0 → SFits w64 sum → Ok (pos 0) ≡ row_step kind xp xt row sum
 unfolding row_step
-row_adds_nothing kind xp xt row sum b h zeros e f = rw (zeros h, no_bits sum f e, row_of_zeros kind xt 5) (sym (step_of_nothing kind xp))
-
--- what the loop that looks for them keeps: zeros from the i-th place on
-pub record Zeros (row : List ℤ) (i : ℕ) : Type 0 where
-  pub within_row : i ≤ 5
-  pub zeros : drop i row ≡ replicate (5 - i) (pos 0)
-
-module _ (row : List ℤ) (five : length row ≡ 5) where
-  pub zeros_first : Zeros row 5
-  zeros_first = let l : length row ≤ 5 = omega arith in record { within_row = le_refl 5; zeros = drop_of_length-le row l }
-
-  pub zeros_more : (i : ℕ) → Zeros row i → 0 < i → of_z w64 (get_or row (i - 1) (pos 0)) ≡ 0 → mag (get_or row (i - 1) (pos 0)) < 2 ^ 63 → Zeros row (i - 1)
-  zeros_more i k h e f =
-      let next : suc (i - 1) ≡ i = omega arith in
-      let left : 5 - (i - 1) ≡ suc (5 - i) = omega (arith, k.within_row) in
-      let zero : get_or row (i - 1) (pos 0) ≡ pos 0 = no_bits (get_or row (i - 1) (pos 0)) (record { sfits = f }) e in
-      record {
-        within_row = omega (arith, k.within_row);
-        zeros = rw (drop-cons row (i - 1) (pos 0) (omega (arith, k.within_row)), next, k.zeros, zero, left);
-      }
-
-  pub zeros_all : (i : ℕ) → Zeros row i → i ≤ 0 → row ≡ replicate 5 (pos 0)
-  zeros_all i k h = let e : i ≡ 0 = omega arith in rw e at k.zeros
+row_adds_nothing kind xp xt row sum b is h e f =
+    rw (zeros_of row (sym is ∙ h), no_bits sum f e, row_of_zeros kind xt (length row)) (sym (step_of_nothing kind xp))

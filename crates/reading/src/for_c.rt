@@ -18,25 +18,27 @@ pub struct AnswerForC {
     pub mark: u8,
 }
 
-pub fn answer_for_c(answer: Answer) -> AnswerForC
-    ensures { result ≡ answer_for_c answer }
-{
-    match answer {
-        Answer::Shown(reading) => AnswerForC {
-            number: 0,
-            detail: 0,
-            pressure: reading.pressure,
-            temperature: reading.temperature,
-            unit: reading.unit,
-            mark: reading.mark,
-        },
-        Answer::Refused(refusal) => AnswerForC {
-            number: refusal.number,
-            detail: refusal.detail,
-            pressure: 0,
-            temperature: 0,
-            unit: 0,
-            mark: 0,
-        },
+impl From<Answer> for AnswerForC {
+    ghost from_gives = { λ answer for_c. for_c ≡ answer_for_c answer };
+
+    fn from(answer: Answer) -> AnswerForC {
+        match answer {
+            Ok(reading) => AnswerForC {
+                number: 0,
+                detail: 0,
+                pressure: reading.pressure,
+                temperature: reading.temperature,
+                unit: reading.unit,
+                mark: reading.mark,
+            },
+            Err(refusal) => AnswerForC {
+                number: refusal.number,
+                detail: refusal.detail,
+                pressure: 0,
+                temperature: 0,
+                unit: 0,
+                mark: 0,
+            },
+        }
     }
 }

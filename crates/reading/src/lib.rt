@@ -3,11 +3,14 @@
 
 use refusals::Refusal;
 
-// A number on the way to a reading, or why there is none.
-mod value;
+// What must hold on the way.
+mod checks;
 
 // Frequencies, and X.
 mod frequency;
+
+// X within its limit.
+mod prescaled;
 
 // The sum of a set.
 mod polynomial;
@@ -23,7 +26,7 @@ pub use measure::measured;
 // The answer for C.
 mod for_c;
 
-pub use for_c::{AnswerForC, answer_for_c};
+pub use for_c::AnswerForC;
 
 // Cycles that a gauge's sensor ran.
 #[repr(C)]
@@ -61,14 +64,4 @@ pub struct Reading {
 }
 
 // What a panel is told: a reading, or a refusal, which holds no pressure.
-#[derive(Clone, Copy)]
-pub enum Answer {
-    Shown(Reading),
-    Refused(Refusal),
-}
-
-#[derive(Clone, Copy)]
-pub enum Trimming {
-    Untrimmed,
-    By(bodies::Trim),
-}
+pub type Answer = Result<Reading, Refusal>;

@@ -1,141 +1,93 @@
 // The sum of a set: each row in XT, then the rows' sums in XP.
-ghost use Rattle.std.specs.Prelude.{◌≡◌, true, ◌≤◌, pos, nat_abs, replicate};
-ghost use Rattle.limits.specs.Limits.{highest_frequency, largest_x, largest_sum};
+ghost use Rattle.std.specs.Prelude.{◌≡◌, ◌≤◌, pos, nat_abs};
+ghost use Rattle.std.specs.List.{list_all};
+ghost use Rattle.std.specs.Ordering.{int_eq};
+ghost use Rattle.limits.specs.Limits.{largest_sum};
 ghost use Rattle.reading.specs.Gauge.{set_of};
 ghost use Rattle.reading.specs.Polynomial.{step_of, row_sum, row_step, grid_sum, set_result};
-ghost use Rattle.reading.specs.PolynomialCuts.{grid_result, result_from_xp};
 
+use crate::checks::limited;
 use crate::frequency::prescaled;
-use crate::value::{Value, limited};
-use limits::GRID_SIZE;
-use sets::Prescale;
+use crate::prescaled::Prescaled;
+use limits::{GRID_SIZE, LARGEST_RESULT, LARGEST_SUM};
+use refusals::{Reason, Refusal};
+use whole::rounding::rounded_over;
+use whole::wrapped_sum;
 
 // One step of a running sum.
-fn step(kind: u64, x: i64, coefficient: i64, sum: i64) -> Value
-    requires { (nat_abs x ≤ largest_x) × (nat_abs sum ≤ largest_sum) }
-    ensures { result ≡ step_of kind x coefficient sum }
+fn step(kind: u64, by: Prescaled, coefficient: i64, sum: i64) -> Result<i64, Refusal>
+    requires { nat_abs sum ≤ largest_sum }
+    ensures { result ≡ step_of kind by.x coefficient sum }
 {
-    let turn = whole::rounding::rounded_over_2_24(sum * x);
+    let turn = rounded_over::<24>(sum * by.x);
     // where the sum does not fit, what is left of it is beyond the limit too
-    let next = whole::wrapped_sum(coefficient, turn);
-    limited(limits::LARGEST_SUM, 25, kind, next)
+    let next = wrapped_sum(coefficient, turn);
+    limited(LARGEST_SUM, Reason::SumTooLarge, kind, next)
 }
 
-fn row_sum(kind: u64, x: i64, row: [i64; GRID_SIZE]) -> Value
-    requires { nat_abs x ≤ largest_x }
-    ensures { result ≡ row_sum kind x row }
+fn row_sum(kind: u64, by: Prescaled, row: [i64; GRID_SIZE]) -> Result<i64, Refusal>
+    ensures { result ≡ row_sum kind by.x row }
 {
-    let mut sum: i64 = 0;
-    let mut i: usize = GRID_SIZE;
-    while 0 < i {
-        i -= 1;
-        match step(kind, x, row[i], sum) {
-            Value::Known(next) => {
-                sum = next;
-            }
-            Value::Refused(refusal) => {
-                return Value::Refused(refusal);
-            }
-        }
+    let mut sum = 0;
+    for coefficient in row.iter().rev() {
+        sum = step(kind, by, *coefficient, sum)?;
     }
-    Value::Known(sum)
+    Ok(sum)
 }
 
 fn is_zero(row: [i64; GRID_SIZE]) -> bool
-    ensures { result ≡ true → row ≡ replicate 5 (pos 0) }
+    ensures { result ≡ list_all (λ z. int_eq z (pos 0)) row }
 {
-    let mut place: usize = GRID_SIZE;
-    while 0 < place {
-        place -= 1;
-        if row[place] != 0 {
-            return false;
-        }
-    }
-    true
+    row.iter().all(|coefficient| *coefficient == 0)
 }
 
 // One step of the rows' running sum: a row's own sum is the coefficient.
-fn row_step(kind: u64, xp: i64, xt: i64, row: [i64; GRID_SIZE], sum: i64) -> Value
-    requires { (nat_abs xp ≤ largest_x) × (nat_abs xt ≤ largest_x) × (nat_abs sum ≤ largest_sum) }
-    ensures { result ≡ row_step kind xp xt row sum }
+fn row_step(
+    kind: u64,
+    by_pressure: Prescaled,
+    by_temperature: Prescaled,
+    row: [i64; GRID_SIZE],
+    sum: i64,
+) -> Result<i64, Refusal>
+    requires { nat_abs sum ≤ largest_sum }
+    ensures { result ≡ row_step kind by_pressure.x by_temperature.x row sum }
 {
     // an absent row under absent rows adds nothing
-    if sum == 0 {
-        if is_zero(row) {
-            return Value::Known(0);
-        }
+    if sum == 0 && is_zero(row) {
+        return Ok(0);
     }
-    match row_sum(kind, xt, row) {
-        Value::Known(coefficient) => step(kind, xp, coefficient, sum),
-        Value::Refused(refusal) => Value::Refused(refusal),
-    }
+    step(kind, by_pressure, row_sum(kind, by_temperature, row)?, sum)
 }
 
-fn grid_sum(kind: u64, xp: i64, xt: i64, grid: [[i64; GRID_SIZE]; GRID_SIZE]) -> Value
-    requires { (nat_abs xp ≤ largest_x) × (nat_abs xt ≤ largest_x) }
-    ensures { result ≡ grid_sum kind xp xt grid }
-{
-    let mut sum: i64 = 0;
-    let mut i: usize = GRID_SIZE;
-    while 0 < i {
-        i -= 1;
-        let row = grid[i];
-        match row_step(kind, xp, xt, row, sum) {
-            Value::Known(next) => {
-                sum = next;
-            }
-            Value::Refused(refusal) => {
-                return Value::Refused(refusal);
-            }
-        }
-    }
-    Value::Known(sum)
-}
-
-fn grid_result(kind: u64, xp: i64, xt: i64, grid: [[i64; GRID_SIZE]; GRID_SIZE]) -> Value
-    requires { (nat_abs xp ≤ largest_x) × (nat_abs xt ≤ largest_x) }
-    ensures { result ≡ grid_result kind xp xt grid }
-{
-    match grid_sum(kind, xp, xt, grid) {
-        Value::Known(sum) => limited(limits::LARGEST_RESULT, 26, kind, sum),
-        Value::Refused(refusal) => Value::Refused(refusal),
-    }
-}
-
-fn result_from_xp(
+// The loop is `row_sum`'s with another step. One function of both would take the step as a closure, whose precondition on the
+// running sum every call would have to state again.
+fn grid_sum(
     kind: u64,
-    detail: u64,
-    xp: i64,
-    scale: Prescale,
-    temperature: i64,
+    by_pressure: Prescaled,
+    by_temperature: Prescaled,
     grid: [[i64; GRID_SIZE]; GRID_SIZE],
-) -> Value
-    requires { (nat_abs xp ≤ largest_x) × (nat_abs temperature ≤ highest_frequency) }
-    ensures { result ≡ result_from_xp kind detail xp scale temperature grid }
+) -> Result<i64, Refusal>
+    ensures { result ≡ grid_sum kind by_pressure.x by_temperature.x grid }
 {
-    match prescaled(detail, scale, temperature) {
-        Value::Known(xt) => grid_result(kind, xp, xt, grid),
-        Value::Refused(refusal) => Value::Refused(refusal),
+    let mut sum = 0;
+    for row in grid.iter().rev() {
+        sum = row_step(kind, by_pressure, by_temperature, *row, sum)?;
     }
+    Ok(sum)
 }
 
 // The result of the set that a body holds, from its own prescale of both frequencies.
-pub fn set_result(kind: u64, first: u64, body: &[u8], fp: i64, ft: i64) -> Value
-    requires { (nat_abs fp ≤ highest_frequency) × (nat_abs ft ≤ highest_frequency) × (first ≤ 3) }
+pub fn set_result(kind: u64, first: u64, body: &[u8], fp: i64, ft: i64) -> Result<i64, Refusal>
+    requires { first ≤ 3 }
     ensures { result ≡ set_result kind first (set_of body.now) fp ft }
 {
     let set = sets::read_prescales(body);
-    let by_pressure = set.pressure;
-    let by_temperature = set.temperature;
-    match prescaled(first, by_pressure, fp) {
-        Value::Known(xp) => result_from_xp(
-            kind,
-            first + 1,
-            xp,
-            by_temperature,
-            ft,
-            sets::read_grid(body),
-        ),
-        Value::Refused(refusal) => Value::Refused(refusal),
-    }
+    let by_pressure = Prescaled {
+        x: prescaled(first, set.pressure, fp)?,
+    };
+    let by_temperature = Prescaled {
+        x: prescaled(first + 1, set.temperature, ft)?,
+    };
+    let sum = grid_sum(kind, by_pressure, by_temperature, sets::read_grid(body))?;
+    limited(LARGEST_RESULT, Reason::ResultTooLarge, kind, sum)
 }

@@ -1,13 +1,12 @@
 -- Laws for code that judges a body's fields in order, one by one or in a loop: it goes on past a right field and refuses at a wrong one.
-use Rattle.std.specs.Prelude.{◌≡◌, refl, Bool, not, List, [], ◌∷◌}
+use Rattle.std.specs.Prelude.{◌≡◌, refl, Bool, not, List, [], ◌∷◌, Ok}
 use Rattle.std.proofs.Common.{sym, ◌∙◌}
 use Rattle.std.proofs.Math.Bool.{true, false}
 use Prim.Native.Nat.{ℕ, suc, ◌+◌, ◌-◌, ◌≤◌, ◌<◌}
 use Rattle.std.proofs.Math.Nat.{sub-zero}
 use native.Mathlib.Omega.{arith}
 use borrow.Author.Tests.{not-true, not-false}
-use Rattle.refusals.specs.declared.Verdict.{Verdict}
-use Rattle.refusals.specs.declared.Verdict.TheVariants.{Accepted}
+use Rattle.refusals.specs.Answers.{Verdict}
 use Rattle.refusals.specs.FieldsVerdict.{Field, refused_at, fields_verdict, fields_from}
 
 -- the code's test of a field came out as `told`: true where the field is not right
@@ -34,7 +33,7 @@ module _ {number : ℕ} {fields : List Field} {verdict : Verdict} where
   pub fields_left : verdict ≡ fields_verdict number fields → IsVerdict number fields verdict
   fields_left h = record { is = h }
 
-pub fields_end : {number : ℕ} → IsVerdict number [] Accepted
+pub fields_end : {number : ℕ} → IsVerdict number [] (Ok tt)
 unfolding fields_verdict
 fields_end = record { is = refl }
 
@@ -67,6 +66,6 @@ module _ (number : ℕ) (rule : ℕ → Field) (count i : ℕ) (before : FieldsR
       → IsVerdict number (fields_from rule count 0) verdict
   loop_wrong h w e = verdict_left (rw (next h) (field_wrong w e))
 
-  pub loop_end : count ≤ i → IsVerdict number (fields_from rule count 0) Accepted
+  pub loop_end : count ≤ i → IsVerdict number (fields_from rule count 0) (Ok tt)
   unfolding fields_from
   loop_end h = let e : count - i ≡ 0 = omega arith in verdict_left (rw e fields_end)

@@ -1,7 +1,7 @@
 -- Answers as C gets them, and what is then promised of a lent buffer.
 use Rattle.std.specs.Prelude.{List, ◌≡◌, ℕ, length}
-use Rattle.refusals.specs.declared.Verdict.{Verdict}
-use Rattle.refusals.specs.declared.Filled.{Filled}
+use Rattle.refusals.specs.Answers.{Verdict}
+use Rattle.refusals.specs.Answers.{Filled}
 use Rattle.refusals.specs.declared.for_c.VerdictForC.{VerdictForC}
 use Rattle.refusals.specs.declared.for_c.FilledForC.{FilledForC}
 use Rattle.refusals.specs.InNumbers.{verdict_number, verdict_detail, filled_number, filled_detail, filled_length}

@@ -1,28 +1,26 @@
 -- Laws of answers as C gets them: each case, and an answer that a definition gives.
-use Rattle.std.specs.Prelude.{List, ◌≡◌, ℕ}
+use Rattle.std.specs.Prelude.{List, ◌≡◌, ℕ, Err, Ok}
 use Rattle.std.proofs.Common.{ap, ◌∙◌}
 use Rattle.refusals.specs.declared.Refusal.{Refusal}
-use Rattle.refusals.specs.declared.Verdict.{Verdict}
-use Rattle.refusals.specs.declared.Verdict.TheVariants.{Accepted, Refused}
-use Rattle.refusals.specs.declared.Filled.{Filled}
-use Rattle.refusals.specs.declared.Filled.TheVariants.{Length, Refused as NotFilled}
+use Rattle.refusals.specs.Answers.{Verdict}
+use Rattle.refusals.specs.Answers.{Filled}
 use Rattle.refusals.specs.declared.for_c.VerdictForC.{VerdictForC}
 use Rattle.refusals.specs.declared.for_c.FilledForC.{FilledForC}
 use Rattle.refusals.specs.Refusals.{Outcome, Fills}
 use Rattle.refusals.specs.ForC.{verdict_for_c, filled_for_c, FillsForC}
 
 module _ {v : Verdict} where
-  pub for_c_accepted : v ≡ Accepted → record { number = 0; detail = 0 } ≡ verdict_for_c v
+  pub for_c_accepted : v ≡ Ok tt → record { number = 0; detail = 0 } ≡ verdict_for_c v
   for_c_accepted e = rw e
 
-  pub for_c_refused : (r : Refusal) → v ≡ Refused r → record { number = r.number; detail = r.detail } ≡ verdict_for_c v
+  pub for_c_refused : (r : Refusal) → v ≡ Err r → record { number = r.number; detail = r.detail } ≡ verdict_for_c v
   for_c_refused r e = rw e
 
 module _ {f : Filled} where
-  pub for_c_length : (n : ℕ) → f ≡ Length n → record { number = 0; detail = 0; length = n } ≡ filled_for_c f
+  pub for_c_length : (n : ℕ) → f ≡ Ok n → record { number = 0; detail = 0; length = n } ≡ filled_for_c f
   for_c_length n e = rw e
 
-  pub for_c_unfilled : (r : Refusal) → f ≡ NotFilled r → record { number = r.number; detail = r.detail; length = 0 } ≡ filled_for_c f
+  pub for_c_unfilled : (r : Refusal) → f ≡ Err r → record { number = r.number; detail = r.detail; length = 0 } ≡ filled_for_c f
   for_c_unfilled r e = rw e
 
 pub verdict_for_c_lem : {v said : Verdict} {r : VerdictForC} → v ≡ said → r ≡ verdict_for_c v → r ≡ verdict_for_c said

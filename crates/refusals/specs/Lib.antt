@@ -1,3 +1,5 @@
+pub mod Reasons
+pub mod Answers
 pub mod InNumbers
 pub mod Refusals
 pub mod FieldsVerdict

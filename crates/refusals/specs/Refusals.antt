@@ -1,12 +1,10 @@
 -- Checks in order, of which the first refusal wins, and what a lent buffer holds.
-use Rattle.std.specs.Prelude.{Bool, cond, List, ◌++◌, ◌≡◌, ℕ, ◌-◌, length, replicate}
+use Rattle.std.specs.Prelude.{Bool, cond, List, ◌++◌, ◌≡◌, ℕ, ◌-◌, length, replicate, Err, Ok}
 use Rattle.numbers.specs.Slices.{cleared_from}
 use Rattle.refusals.specs.declared.Refusal.{Refusal}
-use Rattle.refusals.specs.declared.Verdict.{Verdict}
-use Rattle.refusals.specs.declared.Verdict.TheVariants.{Accepted, Refused}
+use Rattle.refusals.specs.Answers.{Verdict}
 use Rattle.refusals.specs.InNumbers.{filled_length}
-use Rattle.refusals.specs.declared.Filled.{Filled}
-use Rattle.refusals.specs.declared.Filled.TheVariants.{Length, Refused as NotFilled}
+use Rattle.refusals.specs.Answers.{Filled}
 
 abbrev pub refusal : (number detail : ℕ) → Refusal
 refusal number detail = record { number = number; detail = detail }
@@ -15,11 +13,11 @@ refusal number detail = record { number = number; detail = detail }
 
 -- a check: what must hold, and the refusal where it doesn't
 abbrev pub ask : Bool → (number detail : ℕ) → Verdict
-ask holds number detail = cond holds Accepted (Refused (refusal number detail))
+ask holds number detail = cond holds (Ok tt) (Err (refusal number detail))
 
 abbrev pub and_then : Verdict → Verdict → Verdict
-and_then Accepted next = next
-and_then (Refused r) next = Refused r
+and_then (Ok tt) next = next
+and_then (Err r) next = Err r
 
 -- ---- a lent buffer
 
@@ -30,12 +28,12 @@ pub data Outcome : Type 0 where
 
 -- the result x, where the checks before it are passed
 abbrev pub checked : Verdict → List ℕ → Outcome
-checked Accepted x = result x
-checked (Refused r) x = refused r
+checked (Ok tt) x = result x
+checked (Err r) x = refused r
 
 abbrev pub answer_to : Outcome → Filled
-answer_to (result x) = Length (length x)
-answer_to (refused r) = NotFilled r
+answer_to (result x) = Ok (length x)
+answer_to (refused r) = Err r
 
 -- the buffer after it, `size` bytes: the result from its start and zeros after it, or all zeros
 abbrev pub held_after : (size : ℕ) → Outcome → List ℕ

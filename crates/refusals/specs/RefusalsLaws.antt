@@ -1,20 +1,19 @@
 -- Laws of lent buffers: from a buffer that begins with the result to one with zeros after it.
-use Rattle.std.specs.Prelude.{◌≡◌, refl, List, [], ℕ, ◌-◌, length, take, replicate}
+use Rattle.std.specs.Prelude.{◌≡◌, refl, List, [], ℕ, ◌-◌, length, take, replicate, Err, Ok}
 use Rattle.std.proofs.Common.{sym, ap, ◌∙◌, arith}
 use Rattle.std.proofs.Math.Nat.{sub-zero}
 use Rattle.std.proofs.Math.Seq.{take-append_seam}
 use Rattle.numbers.specs.Slices.{cleared_from}
 use Rattle.refusals.specs.declared.Refusal.{Refusal}
-use Rattle.refusals.specs.declared.Filled.{Filled}
-use Rattle.refusals.specs.declared.Filled.TheVariants.{Length, Refused}
+use Rattle.refusals.specs.Answers.{Filled}
 use Rattle.refusals.specs.InNumbers.{filled_length}
 use Rattle.refusals.specs.Refusals.{Outcome, result, refused, answer_to, held_after, Fills, Settled}
 
 module _ (a : Filled) (d d' : List ℕ) where
-  pub settled_length : (n : ℕ) → a ≡ Length n → d' ≡ cleared_from n d → Settled a d (Length n) d'
+  pub settled_length : (n : ℕ) → a ≡ Ok n → d' ≡ cleared_from n d → Settled a d (Ok n) d'
   settled_length n e h = record { same = sym e; cleared = rw e h }
 
-  pub settled_refused : (r : Refusal) → a ≡ Refused r → d' ≡ cleared_from 0 d → Settled a d a d'
+  pub settled_refused : (r : Refusal) → a ≡ Err r → d' ≡ cleared_from 0 d → Settled a d a d'
   settled_refused r e h = record { same = refl; cleared = rw e h }
 
 -- the result's bytes
@@ -38,14 +37,14 @@ settled_fills o before d d' a r e b s = record { answers = s.same ∙ b.answers;
 -- ---- from an answer back to what it answers
 
 module _ (o : Outcome) (before after : List ℕ) (a : Filled) (f : Fills o before a after) where
-  pub refused_of : (r : Refusal) → a ≡ Refused r → o ≡ refused r
+  pub refused_of : (r : Refusal) → a ≡ Err r → o ≡ refused r
   refused_of r e = by o refl
     where
       by : (p : Outcome) → o ≡ p → o ≡ refused r
       by (refused q) s = s ∙ ap refused (cc (rw s at f.answers, e))
       by (result x) s = let z : ◌≡◌ {A = ℕ} 0 1 = cc (rw s at f.answers, e) in absurd (omega arith)
 
-  pub result_of : (n : ℕ) → a ≡ Length n → o ≡ result (take n after)
+  pub result_of : (n : ℕ) → a ≡ Ok n → o ≡ result (take n after)
   result_of n e = by o refl
     where
       by : (p : Outcome) → o ≡ p → o ≡ result (take n after)

@@ -21,34 +21,38 @@ pub struct FilledForC {
     pub length: usize,
 }
 
-pub fn verdict_for_c(verdict: Verdict) -> VerdictForC
-    ensures { result ≡ verdict_for_c verdict }
-{
-    match verdict {
-        Verdict::Accepted => VerdictForC {
-            number: 0,
-            detail: 0,
-        },
-        Verdict::Refused(why) => VerdictForC {
-            number: why.number,
-            detail: why.detail,
-        },
+impl From<Verdict> for VerdictForC {
+    ghost from_gives = { λ verdict for_c. for_c ≡ verdict_for_c verdict };
+
+    fn from(verdict: Verdict) -> VerdictForC {
+        match verdict {
+            Ok(()) => VerdictForC {
+                number: 0,
+                detail: 0,
+            },
+            Err(why) => VerdictForC {
+                number: why.number,
+                detail: why.detail,
+            },
+        }
     }
 }
 
-pub fn filled_for_c(filled: Filled) -> FilledForC
-    ensures { result ≡ filled_for_c filled }
-{
-    match filled {
-        Filled::Length(length) => FilledForC {
-            number: 0,
-            detail: 0,
-            length,
-        },
-        Filled::Refused(refusal) => FilledForC {
-            number: refusal.number,
-            detail: refusal.detail,
-            length: 0,
-        },
+impl From<Filled> for FilledForC {
+    ghost from_gives = { λ filled for_c. for_c ≡ filled_for_c filled };
+
+    fn from(filled: Filled) -> FilledForC {
+        match filled {
+            Ok(length) => FilledForC {
+                number: 0,
+                detail: 0,
+                length,
+            },
+            Err(refusal) => FilledForC {
+                number: refusal.number,
+                detail: refusal.detail,
+                length: 0,
+            },
+        }
     }
 }

@@ -6,8 +6,10 @@ ghost use Rattle.refusals.specs.Refusals.{refusal, Settled};
 ghost use Rattle.refusals.specs.FieldsVerdict.{refused_at};
 
 mod for_c;
+mod reason;
 
-pub use for_c::{FilledForC, VerdictForC, filled_for_c, verdict_for_c};
+pub use for_c::{FilledForC, VerdictForC};
+pub use reason::Reason;
 
 // A number of document 01's table and its detail, which is wide enough for the line of any text.
 #[derive(Clone, Copy)]
@@ -17,16 +19,15 @@ pub struct Refusal {
 }
 
 // What a check answers.
-#[derive(Clone, Copy)]
-pub enum Verdict {
-    Accepted,
-    Refused(Refusal),
-}
+pub type Verdict = Result<(), Refusal>;
+
+// What the filling of a lent buffer answers: how many bytes from its start are the result, or why there is none.
+pub type Filled = Result<usize, Refusal>;
 
 pub fn refused(number: u32, detail: u64) -> Verdict
-    ensures { result ≡ Verdict.Refused (refusal number detail) }
+    ensures { result ≡ Err (refusal number detail) }
 {
-    Verdict::Refused(Refusal { number, detail })
+    Err(Refusal { number, detail })
 }
 
 // The refusal of a body whose first wrong field stands at `place`. Document 01 gives it the detail 0; the place is handed on for a later
@@ -37,25 +38,10 @@ pub fn refused_at(number: u32, place: usize) -> Verdict
     refused(number, 0)
 }
 
-// What the filling of a lent buffer answers: how many bytes from its start are the result, or why there is none.
-#[derive(Clone, Copy)]
-pub enum Filled {
-    Length(usize),
-    Refused(Refusal),
-}
-
 // The answer passed on, with zeros after the result, and nothing but zeros where there is none.
 pub fn settled(answer: Filled, buffer: &mut [u8]) -> Filled
     ensures { Settled answer buffer.old result buffer.new }
 {
-    match answer {
-        Filled::Length(length) => {
-            numbers::slices::clear_from(buffer, length);
-            answer
-        }
-        Filled::Refused(_) => {
-            numbers::slices::clear_from(buffer, 0);
-            answer
-        }
-    }
+    numbers::slices::clear_from(buffer, answer.unwrap_or(0));
+    answer
 }

@@ -1,7 +1,7 @@
 -- Kinds 2 and 3, pressure set and temperature set, 28 + 8 N bytes.
 use Rattle.std.specs.Prelude.{Bool, cond, ◌&&◌, List, [], ◌∷◌, ℕ, zero, suc, ◌+◌, ◌*◌, ◌^◌, leb, eqb, ℤ, pos, nat_abs, length}
 use Rattle.numbers.specs.Fields.{number_at, signed_at}
-use Rattle.refusals.specs.declared.Verdict.{Verdict}
+use Rattle.refusals.specs.Answers.{Verdict}
 use Rattle.refusals.specs.FieldsVerdict.{Field, field, fields_verdict, fields_from}
 use Rattle.sets.specs.declared.Prescales.{Prescales}
 

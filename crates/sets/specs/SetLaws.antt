@@ -1,38 +1,51 @@
 -- Laws of a set: what is read, and what the tests of its prescales and of its length tell.
-use Rattle.std.specs.Prelude.{◌≡◌, Bool, ◌&&◌, List, [], ◌∷◌, ℕ, ◌+◌, ◌*◌, ◌^◌, ◌≤◌, leb, eqb, length}
+use Rattle.std.specs.Prelude.{◌≡◌, Bool, ◌&&◌, List, [], ◌∷◌, ℕ, ◌+◌, ◌*◌, ◌^◌, ◌≤◌, leb, eqb, ℤ, length, take, drop, Err, Ok}
 use Rattle.std.proofs.Math.Path.{refl}
 use Rattle.std.proofs.Common.{sym, ap, ◌∙◌, mul-le-mul, arith, ne_eqb}
 use Rattle.std.proofs.Math.Bool.{true, false}
-use Rattle.numbers.specs.Fields.{number_at}
+use Rattle.std.specs.Result.{IsErrAnd}
+use Rattle.std.proofs.lemmas.Result.{err_from_is_err_and}
+use Rattle.numbers.specs.Fields.{number_at, signed_at}
+use Rattle.numbers.specs.FieldsLaws.{number_from, number_within}
 use Rattle.refusals.specs.declared.Refusal.{Refusal}
-use Rattle.refusals.specs.declared.Verdict.{Verdict}
-use Rattle.refusals.specs.declared.Verdict.TheVariants.{Accepted, Refused}
+use Rattle.refusals.specs.Answers.{Verdict}
 use Rattle.refusals.specs.FieldsVerdict.{Field, field, fields_verdict}
 use Rattle.refusals.specs.FieldsVerdictLaws.{TestResult, IsVerdict}
 use Rattle.refusals.specs.TestsLaws.{equal, unequal}
 use Rattle.refusals.specs.VerdictLaws.{never_both}
+use Rattle.sets.specs.declared.Prescale.{Prescale}
 use Rattle.sets.specs.declared.Prescales.{Prescales}
-use Rattle.sets.specs.Set.{
-  prescales_of,
-  pressure_order,
-  temperature_order,
-  coefficient_count,
-  set_size,
-  prescale_fields,
-  coefficient_fields,
-  multiplier_right,
-  offset_right,
-}
+use Rattle.sets.specs.Set.{prescales_of, coefficient_count, set_size, prescale_fields, coefficient_fields, multiplier_right, offset_right}
 use Rattle.sets.specs.Preconditions.{OrdersRead}
 
-pub set_read : (body : List ℕ) {np mp fp nt mt ft : ℕ}
-    → np ≡ pressure_order body → mp ≡ number_at 4 body 4 → fp ≡ number_at 8 body 8
-    → nt ≡ temperature_order body → mt ≡ number_at 4 body 16 → ft ≡ number_at 8 body 20
-    → ◌≡◌ {A = Prescales}
-    (record { pressure = record { order = np; multiplier = mp; offset = fp }; temperature = record { order = nt; multiplier = mt; offset = ft } })
-    (prescales_of body)
+-- a prescale, by the places of its order and its multiplier, after which its offset stands
+abbrev pub prescale_at : List ℕ → (order multiplier : ℕ) → Prescale
+prescale_at body order multiplier =
+    record { order = number_at 1 body order; multiplier = number_at 4 body multiplier; offset = number_at 8 body (multiplier + 4) }
+
+pub prescales_read : (body : List ℕ) {p t : Prescale} → p ≡ prescale_at body 2 4 → t ≡ prescale_at body 3 16
+    → ◌≡◌ {A = Prescales} (record { pressure = p; temperature = t }) (prescales_of body)
 unfolding prescales_of
-set_read body a b c d e f = rw (a, b, c, d, e, f)
+prescales_read body e f = rw (e, f)
+
+-- the head says all of it
+pub prescales_of_head : (body : List ℕ) → prescales_of (take 28 body) ≡ prescales_of body
+unfolding prescales_of
+prescales_of_head body =
+    rw (
+      number_within 1 body 2 28 (omega arith),
+      number_within 4 body 4 28 (omega arith),
+      number_within 8 body 8 28 (omega arith),
+      number_within 1 body 3 28 (omega arith),
+      number_within 4 body 16 28 (omega arith),
+      number_within 8 body 20 28 (omega arith),
+    )
+
+-- a coefficient that was read from its own eight bytes
+pub coefficient_read : (body : List ℕ) (place n : ℕ) {z : ℤ} → 8 ≤ n → z ≡ signed_at 8 (take n (drop place body)) 0 → z ≡ signed_at 8 body place
+coefficient_read body place n h e =
+    let same : place + 0 ≡ place = omega arith in
+    rw (number_within 8 (drop place body) 0 n (omega arith), number_from 8 body place 0, same) at e
 
 -- ---- prescales: an order of 0 asks for zeros, another for the limits
 
@@ -51,14 +64,14 @@ module _ (order n : ℕ) (told : Bool) where
 
 -- two fields judged before others
 module _ (number place next : ℕ) where
-  both_right : (a b : Bool) (fields : List Field) → fields_verdict number (field place a ∷ field next b ∷ []) ≡ Accepted
+  both_right : (a b : Bool) (fields : List Field) → fields_verdict number (field place a ∷ field next b ∷ []) ≡ Ok tt
       → fields_verdict number fields ≡ fields_verdict number (field place a ∷ field next b ∷ fields)
   unfolding fields_verdict
   both_right true true fields e = refl
   both_right true false fields e = never_both refl e
   both_right false b fields e = never_both refl e
 
-  one_wrong : (a b : Bool) (fields : List Field) (r : Refusal) → fields_verdict number (field place a ∷ field next b ∷ []) ≡ Refused r
+  one_wrong : (a b : Bool) (fields : List Field) (r : Refusal) → fields_verdict number (field place a ∷ field next b ∷ []) ≡ Err r
       → fields_verdict number (field place a ∷ field next b ∷ []) ≡ fields_verdict number (field place a ∷ field next b ∷ fields)
   unfolding fields_verdict
   one_wrong true true fields r e = never_both e refl
@@ -66,20 +79,23 @@ module _ (number place next : ℕ) where
   one_wrong false b fields r e = refl
 
 -- v is the code's verdict on a prescale, of which it read the order x, the multiplier m and the offset o
-module _ (number place next x m o order multiplier offset : ℕ) (v : Verdict) (h : v ≡ fields_verdict number (prescale_fields x m o place))
-    (e : x ≡ order) (f : m ≡ multiplier) (g : o ≡ offset) (p : place + 4 ≡ next) (fields : List Field) where
+module _ (number place x m o : ℕ) (v : Verdict) (h : v ≡ fields_verdict number (prescale_fields x m o place))
+    (next order multiplier offset : ℕ) (e : x ≡ order) (f : m ≡ multiplier) (g : o ≡ offset) (p : place + 4 ≡ next) (fields : List Field) where
   judged : v ≡ fields_verdict number (field place (multiplier_right order multiplier) ∷ field next (offset_right order offset) ∷ [])
   judged = rw (e, f, g, p) at h
 
-  pub prescale_right : {verdict : Verdict} → v ≡ Accepted → IsVerdict number fields verdict
+  pub prescale_right : (verdict : Verdict) → v ≡ Ok tt → IsVerdict number fields verdict
       → IsVerdict number (field place (multiplier_right order multiplier) ∷ field next (offset_right order offset) ∷ fields) verdict
-  prescale_right k i =
+  prescale_right verdict k i =
       record { is = i.is ∙ both_right number place next (multiplier_right order multiplier) (offset_right order offset) fields (sym judged ∙ k) }
 
-  pub prescale_wrong : (r : Refusal) → v ≡ Refused r
-      → IsVerdict number (field place (multiplier_right order multiplier) ∷ field next (offset_right order offset) ∷ fields) v
-  prescale_wrong r k =
-      record { is = judged ∙ one_wrong number place next (multiplier_right order multiplier) (offset_right order offset) fields r (sym judged ∙ k) }
+  -- a refusal that is passed on
+  pub prescale_wrong : (verdict : Verdict) (r : Refusal) → v ≡ Err r → IsErrAnd verdict (λ q. q ≡ r)
+      → IsVerdict number (field place (multiplier_right order multiplier) ∷ field next (offset_right order offset) ∷ fields) verdict
+  prescale_wrong verdict r k w =
+      let passed = err_from_is_err_and _ w in
+      let same = passed.1 ∙ ap Err passed.2 ∙ sym k ∙ judged in
+      record { is = same ∙ one_wrong number place next (multiplier_right order multiplier) (offset_right order offset) fields r (sym judged ∙ k) }
 
 -- ---- the length that the orders ask for; x and y are the orders that the code read
 

@@ -1,6 +1,7 @@
 // A set's prescales, and its fields judged in layout order.
 ghost use Rattle.std.specs.Prelude.{◌≡◌, ◌+◌, ◌*◌, ◌≤◌, length, drop};
 ghost use Rattle.refusals.specs.FieldsVerdict.{fields_verdict};
+ghost use Rattle.sets.specs.SetLaws.{prescale_at};
 ghost use Rattle.sets.specs.Set.{prescales_of, set_fields, set_verdict, prescale_fields, coefficient_fields};
 ghost use Rattle.sets.specs.Preconditions.{OrdersRead};
 
@@ -10,27 +11,37 @@ use limits::{
     COEFFICIENT_SIZE, HIGHEST_ORDER, LARGEST_COEFFICIENT, LARGEST_MULTIPLIER, LARGEST_OFFSET,
     PRESCALE_ALGORITHM, SET_HEAD_SIZE,
 };
-use numbers::fields::{number1, number4, number8};
+use numbers::fields::Number;
 use refusals::{Verdict, refused_at};
 use whole::{beyond, outside};
 
 pub fn read_prescales(body: &[u8]) -> Prescales
     ensures { result ≡ prescales_of body.now }
 {
-    // read from the last field on, so that one bounds check serves all fields
-    let temperature = Prescale {
-        offset: number8(body, 20),
-        multiplier: number4(body, 16),
-        order: number1(body, 3),
-    };
-    let pressure = Prescale {
-        offset: number8(body, 8),
-        multiplier: number4(body, 4),
-        order: number1(body, 2),
-    };
+    // one bounds check for all fields: each of a head that is whole is known to be there
+    match body.first_chunk::<SET_HEAD_SIZE>() {
+        Some(head) => prescales_in(head),
+        None => prescales_in(body),
+    }
+}
+
+fn prescales_in(head: &[u8]) -> Prescales
+    ensures { result ≡ prescales_of head.now }
+{
     Prescales {
-        pressure,
-        temperature,
+        pressure: prescale_at(head, 2, 4),
+        temperature: prescale_at(head, 3, 16),
+    }
+}
+
+fn prescale_at(head: &[u8], order: usize, multiplier: usize) -> Prescale
+    requires { multiplier ≤ 16 }
+    ensures { result ≡ prescale_at head.now order multiplier }
+{
+    Prescale {
+        order: u8::at(head, order),
+        multiplier: u32::at(head, multiplier),
+        offset: u64::at(head, multiplier + 4),
     }
 }
 
@@ -40,17 +51,17 @@ pub fn set_verdict(body: &[u8], number: u32) -> Verdict
     if body.len() < 4 {
         return refused_at(number, body.len());
     }
-    if number1(body, 0) != PRESCALE_ALGORITHM {
+    if u8::at(body, 0) != PRESCALE_ALGORITHM {
         return refused_at(number, 0);
     }
-    if number1(body, 1) != PRESCALE_ALGORITHM {
+    if u8::at(body, 1) != PRESCALE_ALGORITHM {
         return refused_at(number, 1);
     }
-    let pressure = number1(body, 2);
+    let pressure = u8::at(body, 2);
     if HIGHEST_ORDER < pressure {
         return refused_at(number, 2);
     }
-    let temperature = number1(body, 3);
+    let temperature = u8::at(body, 3);
     if HIGHEST_ORDER < temperature {
         return refused_at(number, 3);
     }
@@ -66,20 +77,14 @@ fn prescales_verdict(body: &[u8], pressure: u8, temperature: u8, number: u32) ->
     if body.len() != SET_HEAD_SIZE + COEFFICIENT_SIZE * count {
         return refused_at(number, body.len());
     }
-    let pressure_judged = prescale_verdict(pressure, number4(body, 4), number8(body, 8), number, 4);
-    let Verdict::Accepted = pressure_judged else {
-        return pressure_judged;
-    };
-    let temperature_judged = prescale_verdict(
+    prescale_verdict(pressure, u32::at(body, 4), u64::at(body, 8), number, 4)?;
+    prescale_verdict(
         temperature,
-        number4(body, 16),
-        number8(body, 20),
+        u32::at(body, 16),
+        u64::at(body, 20),
         number,
         16,
-    );
-    let Verdict::Accepted = temperature_judged else {
-        return temperature_judged;
-    };
+    )?;
     coefficients_verdict(body, count, number)
 }
 
@@ -87,7 +92,7 @@ fn coefficient_count(pressure: u8, temperature: u8) -> usize
     requires { (pressure ≤ 4) × (temperature ≤ 4) }
     ensures { (result ≡ (pressure + 1) * (temperature + 1)) × (result ≤ 25) }
 {
-    (pressure as usize + 1) * (temperature as usize + 1)
+    (usize::from(pressure) + 1) * (usize::from(temperature) + 1)
 }
 
 // Multiplier and offset of one channel, which stand at `place` and four bytes on.
@@ -102,28 +107,26 @@ fn prescale_verdict(order: u8, multiplier: u32, offset: u64, number: u32, place:
         if offset != 0 {
             return refused_at(number, place + 4);
         }
-        return Verdict::Accepted;
+        return Ok(());
     }
-    if outside(1, multiplier as u64, LARGEST_MULTIPLIER) {
+    if outside(1, u64::from(multiplier), LARGEST_MULTIPLIER) {
         return refused_at(number, place);
     }
     if LARGEST_OFFSET < offset {
         return refused_at(number, place + 4);
     }
-    Verdict::Accepted
+    Ok(())
 }
 
 fn coefficients_verdict(body: &[u8], count: usize, number: u32) -> Verdict
     requires { (count ≤ 25) × (length body.now ≡ 28 + 8 * count) }
     ensures { result ≡ fields_verdict number (coefficient_fields body.now count) }
 {
-    let mut i: usize = 0;
-    while i < count {
+    for i in 0..count {
         let place = SET_HEAD_SIZE + COEFFICIENT_SIZE * i;
         if beyond(coefficient(body, place), LARGEST_COEFFICIENT) {
             return refused_at(number, place);
         }
-        i += 1;
     }
-    Verdict::Accepted
+    Ok(())
 }

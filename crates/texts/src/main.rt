@@ -2,31 +2,19 @@
 #![tactic(auto)]
 
 use limits::{LARGEST_IMAGE, LONGEST_SHOWN_TEXT, LONGEST_WRITTEN_TEXT};
-use refusals::{Filled, Refusal};
+use numbers::slices;
+use refusals::Filled;
 use std::fs::File;
 use std::io;
 use std::io::Read;
 
 const TEXT_ROOM: usize = LONGEST_SHOWN_TEXT + 1;
 
-fn print_refusal(rt: &HostRuntime, refusal: Refusal) -> io::Result<()> {
-    println!(rt; "refused {} {}", refusal.number, refusal.detail)
-}
-
-fn print_written(rt: &HostRuntime, image: &[u8]) -> io::Result<()> {
-    let mut buffer = [0u8; LONGEST_WRITTEN_TEXT];
-    match hexwrite::write(image, &mut buffer) {
-        Filled::Length(length) => rt.write_all(numbers::slices::part(&buffer, 0, length)),
-        Filled::Refused(refusal) => print_refusal(rt, refusal),
-    }
-}
-
-fn print_read(rt: &HostRuntime, text: &[u8]) -> io::Result<()> {
-    let mut buffer = [0u8; LARGEST_IMAGE];
-    match hexread::read(text, &mut buffer) {
-        Filled::Length(length) => print_written(rt, numbers::slices::part(&buffer, 0, length)),
-        Filled::Refused(refusal) => print_refusal(rt, refusal),
-    }
+// The image of a text, written as a text again.
+fn rewrite(text: &[u8], written: &mut [u8]) -> Filled {
+    let mut image = [0u8; LARGEST_IMAGE];
+    let length = hexread::read(text, &mut image)?;
+    hexwrite::write(slices::part(&image, 0, length), written)
 }
 
 fn print_file(rt: &HostRuntime, name: &str) -> io::Result<()> {
@@ -34,20 +22,29 @@ fn print_file(rt: &HostRuntime, name: &str) -> io::Result<()> {
     let file = File::open(rt, name)?;
     let mut text = [0u8; TEXT_ROOM];
     let copied = io::copy(&mut file.take(TEXT_ROOM as u64), &mut &mut text[..])?;
-    print_read(rt, &text[..TEXT_ROOM.min(copied as usize)])
+    let mut written = [0u8; LONGEST_WRITTEN_TEXT];
+    match rewrite(&text[..TEXT_ROOM.min(copied as usize)], &mut written) {
+        Ok(length) => rt.write_all(slices::part(&written, 0, length)),
+        Err(refusal) => println!(rt; "refused {} {}", refusal.number, refusal.detail),
+    }
 }
 
 fn main(rt: HostRuntime) -> io::Result<()> {
-    print_file(&rt, "srecord_16.hex")?;
-    print_file(&rt, "srecord_32.hex")?;
-    print_file(&rt, "srecord_lower.hex")?;
-    print_file(&rt, "srecord_full.hex")?;
-    print_file(&rt, "srecord_default.hex")?;
-    print_file(&rt, "objcopy.hex")?;
-    print_file(&rt, "objcopy_full.hex")?;
-    print_file(&rt, "intelhex.hex")?;
-    print_file(&rt, "intelhex_32.hex")?;
-    print_file(&rt, "intelhex_crlf.hex")?;
-    print_file(&rt, "intelhex_full_255.hex")?;
-    print_file(&rt, "intelhex_empty.hex")
+    for name in [
+        "srecord_16.hex",
+        "srecord_32.hex",
+        "srecord_lower.hex",
+        "srecord_full.hex",
+        "srecord_default.hex",
+        "objcopy.hex",
+        "objcopy_full.hex",
+        "intelhex.hex",
+        "intelhex_32.hex",
+        "intelhex_crlf.hex",
+        "intelhex_full_255.hex",
+        "intelhex_empty.hex",
+    ] {
+        print_file(&rt, name)?;
+    }
+    Ok(())
 }

@@ -21,9 +21,14 @@ fn show_file(rt: &HostRuntime, name: &str) -> io::Result<()> {
 }
 
 fn main(rt: HostRuntime) -> io::Result<()> {
-    show_file(&rt, "contents_only.hex")?;
-    show_file(&rt, "kind_127.hex")?;
-    show_file(&rt, "accepted.hex")?;
-    show_file(&rt, "bytes_65536.hex")?;
-    show_file(&rt, "bytes_65537.hex")
+    for name in [
+        "contents_only.hex",
+        "kind_127.hex",
+        "accepted.hex",
+        "bytes_65536.hex",
+        "bytes_65537.hex",
+    ] {
+        show_file(&rt, name)?;
+    }
+    Ok(())
 }

@@ -1,5 +1,5 @@
 -- Laws of `rounded`: callers cite `rounded_nearest` and what follows from it, and never unfold the definition.
-use Rattle.std.specs.Prelude.{◌≡◌, ℕ, suc, ◌+◌, ◌-◌, ◌*◌, ◌/◌, ◌%◌, ◌≤◌, ◌<◌, negsuc, neg_ℤ, nat_abs, ◌+ℤ◌, ◌-ℤ◌, ◌*ℤ◌, ◌≤ℤ◌}
+use Rattle.std.specs.Prelude.{◌≡◌, refl, ℕ, suc, ◌+◌, ◌-◌, ◌*◌, ◌/◌, ◌%◌, ◌≤◌, ◌<◌, negsuc, neg_ℤ, nat_abs, ◌+ℤ◌, ◌-ℤ◌, ◌*ℤ◌, ◌≤ℤ◌}
 use Rattle.std.proofs.Math.Path.{sym, ap}
 use Rattle.std.proofs.Common.{◌∙◌, div-mul-le_self, mod-lt, mul-le-mul_left, mul-le-mul_right, suc-mul, Fits}
 use Rattle.std.proofs.Math.Nat.{div-zero, div-eq_of_lt, div-eq-sub-div, add-div_right, div-div-eq-div-mul, lt-div-mul-add, div-add-mod', mul-add-div_right, mul_left_comm}
@@ -160,3 +160,23 @@ module _ (n : ℤ) (h d : ℕ) (t : h + h ≡ d) where
       let high : n +ℤ pos h ≡ pos (a + d) = same_parts (n +ℤ pos h) (pos (a + d)) (omega (arith, sum_parts n (pos h))) in
       let q : 0 < d = omega arith in
       rw low (ap pos (sym (add-div_right a q)) ∙ sym (ap (λ (z : ℤ). shr_z z d) high) ∙ rounded_by_more)
+
+-- over 1, and over so much that nothing is left
+pub rounded_over_one : (n : ℤ) → rounded n 1 ≡ n
+unfolding rounded
+rounded_over_one (pos a) = let e : (2 * a + 1) / 2 ≡ a = omega arith in ap pos e
+rounded_over_one (negsuc a) =
+    let two : 2 * suc a ≡ suc (2 * a + 1) = omega arith in
+    let e : 2 * a / 2 ≡ a = omega arith in
+    let f : negsuc (2 * a + 1) +ℤ pos 1 ≡ negsuc (2 * a) = same_parts (negsuc (2 * a + 1) +ℤ pos 1) (negsuc (2 * a)) (omega (arith, sum_parts (negsuc (2 * a + 1)) (pos 1))) in
+    rw (two, f, e) refl
+
+pub rounded_over_more : (n : ℤ) (d : ℕ) → 2 * over n < d → 2 * under n ≤ d → rounded n d ≡ pos 0
+unfolding rounded
+rounded_over_more (pos a) d h k = let e : 2 * a + d < 2 * d = omega arith in rw (div-eq_of_lt e) refl
+rounded_over_more (negsuc a) d h k =
+    let two : 2 * suc a ≡ suc (2 * a + 1) = omega arith in
+    let left : ℕ = d - (2 * a + 2) in
+    let f : negsuc (2 * a + 1) +ℤ pos d ≡ pos left = same_parts (negsuc (2 * a + 1) +ℤ pos d) (pos left) (omega (arith, sum_parts (negsuc (2 * a + 1)) (pos d))) in
+    let e : left < 2 * d = omega arith in
+    rw (two, f, div-eq_of_lt e) refl

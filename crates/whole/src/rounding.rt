@@ -2,8 +2,6 @@
 ghost use Rattle.std.specs.Prelude.{◌≡◌, ◌+◌, ◌<◌, ◌^◌, pos};
 ghost use Rattle.whole.specs.Rounded.{rounded};
 
-use crate::HIGHEST;
-
 // n / d; 0 where d is 0.
 pub fn rounded_quotient(n: u64, d: u64) -> u64
     ensures { pos result ≡ rounded (pos n) d }
@@ -20,33 +18,29 @@ pub fn rounded_quotient(n: u64, d: u64) -> u64
     quotient
 }
 
+// n / 2^POWER.
+pub fn rounded_over<const POWER: u32>(n: i64) -> i64
+    ensures { result ≡ rounded n (2 ^ POWER) }
+{
+    if POWER == 0 {
+        return n;
+    }
+    // n is less than half of 2^POWER, or just half below zero
+    if 63 < POWER {
+        return 0;
+    }
+    rounded_by_half(n, 1 << (POWER - 1), POWER)
+}
+
 // n / 2^power, where `half` is half of 2^power: the greatest whole number at most (n + half) / 2^power.
-fn rounded_over(n: i64, half: u32, power: u32) -> i64
+fn rounded_by_half(n: i64, half: u64, power: u32) -> i64
     requires { (half + half ≡ 2 ^ power) × (power < 64) }
     ensures { result ≡ rounded n (2 ^ power) }
 {
     let more = half as i64;
     // so near the highest number that the sum would not fit
-    if HIGHEST - more < n {
+    if i64::MAX - more < n {
         return ((n - more) >> power) + 1;
     }
     (n + more) >> power
-}
-
-pub fn rounded_over_2_24(n: i64) -> i64
-    ensures { result ≡ rounded n (2 ^ 24) }
-{
-    rounded_over(n, 8388608, 24)
-}
-
-pub fn rounded_over_2_28(n: i64) -> i64
-    ensures { result ≡ rounded n (2 ^ 28) }
-{
-    rounded_over(n, 134217728, 28)
-}
-
-pub fn rounded_over_2_32(n: i64) -> i64
-    ensures { result ≡ rounded n (2 ^ 32) }
-{
-    rounded_over(n, 2147483648, 32)
 }

@@ -1,8 +1,5 @@
-use borrow.Author.Rules.{rules}
 use Rattle.finder.specs.FinderLaws.{part_found}
 use Rattle.finder.proofs.find.Goals as goal
 
-ruleset laws = (rules, part_found)
-
 pub returns : goal.returns
-returns c = search laws
+returns c = part_found _ _ _ _ c.place_of.ensures c.part_at.ensures

@@ -1,5 +1,4 @@
-use borrow.Author.Rules.{rules}
-use Rattle.refusals.specs.TestsLaws.{fields, not_below, not_above}
+use Rattle.refusals.specs.TestsLaws.{fields}
 use Rattle.bodies.specs.Identity.{identity_fields}
 use Rattle.bodies.specs.IdentityLaws.{days_of}
 use Rattle.bodies.proofs.identities.date_verdict.Goals as goal

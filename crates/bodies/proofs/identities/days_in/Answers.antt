@@ -1,6 +1,5 @@
-use native.Mathlib.Omega.{arith}
 use borrow.Author.Rules.{rules}
-use Rattle.bodies.specs.MonthLaws.{few_missing, days_worked_out}
+use Rattle.bodies.specs.MonthLaws.{days_worked_out}
 use Rattle.bodies.proofs.identities.days_in.Goals as goal
 
 pub returns : goal.returns

@@ -1,4 +1,3 @@
-use borrow.Author.Rules.{rules}
 use Rattle.refusals.specs.TestsLaws.{fields}
 use Rattle.bodies.specs.Identity.{identity_fields}
 use Rattle.bodies.proofs.identities.limits_verdict.Goals as goal

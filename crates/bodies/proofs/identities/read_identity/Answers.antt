@@ -1,7 +1,6 @@
-use borrow.Author.Rules.{rules}
-use Rattle.laws.specs.SignedBits.{read_as}
-use Rattle.bodies.specs.IdentityLaws.{identity_read}
+use Rattle.std.proofs.Common.{◌∙◌}
+use Rattle.bodies.specs.IdentityLaws.{identity_of_whole}
 use Rattle.bodies.proofs.identities.read_identity.Goals as goal
 
-pub returns : goal.returns
-returns c = search (rules, read_as, identity_read)
+pub returns-in-Some : goal.returns-in-Some
+returns-in-Some c = c.identity_in.ensures ∙ rw c.in-Some.ensures.cases.same (identity_of_whole c.args.body.now)

@@ -1,10 +1,5 @@
-use Prim.Native.Nat.{◌-◌}
-use native.Mathlib.Omega.{arith}
 use borrow.Author.Rules.{rules}
-use lib.ListN.{length}
-use Rattle.refusals.specs.FieldsVerdictLaws.{FieldsRightBefore}
 use Rattle.refusals.specs.TestsLaws.{loop}
-use Rattle.bodies.specs.Note.{character_field}
 use Rattle.bodies.proofs.notes.characters_verdict.Goals as goal
 
 ruleset laws = (rules, loop)

@@ -1,4 +1,3 @@
-use borrow.Author.Rules.{rules}
 use Rattle.bodies.specs.Note.{note_fields}
 use Rattle.refusals.specs.TestsLaws.{fields}
 use Rattle.bodies.proofs.notes.note_verdict.Goals as goal

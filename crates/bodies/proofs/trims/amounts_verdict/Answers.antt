@@ -1,4 +1,3 @@
-use borrow.Author.Rules.{rules}
 use Rattle.refusals.specs.TestsLaws.{fields}
 use Rattle.bodies.specs.Trim.{trim_fields}
 use Rattle.bodies.proofs.trims.amounts_verdict.Goals as goal

@@ -1,7 +1,6 @@
-use borrow.Author.Rules.{rules}
-use Rattle.laws.specs.SignedBits.{read_as}
-use Rattle.bodies.specs.TrimLaws.{trim_read}
+use Rattle.std.proofs.Common.{◌∙◌}
+use Rattle.bodies.specs.TrimLaws.{trim_of_whole}
 use Rattle.bodies.proofs.trims.read_trim.Goals as goal
 
-pub returns : goal.returns
-returns c = search (rules, read_as, trim_read)
+pub returns-in-Some : goal.returns-in-Some
+returns-in-Some c = c.trim_in.ensures ∙ rw c.in-Some.ensures.cases.same (trim_of_whole c.args.body.now)

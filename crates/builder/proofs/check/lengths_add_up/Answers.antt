@@ -1,14 +1,9 @@
-use borrow.Author.Rules.{rules}
-use Rattle.builder.specs.CheckLaws.{adding_first, adding_more, adding_short, adding_end}
+use Rattle.std.proofs.Common.{arith}
+use Rattle.builder.specs.CheckLaws.{adding_short, adding_more}
 use Rattle.builder.proofs.check.lengths_add_up.Goals as goal
 
-ruleset laws = (rules, adding_first, adding_more, adding_short, adding_end)
-
 pub returns-then-left-length : goal.returns-then-left-length
-returns-then-left-length c = search laws
+returns-then-left-length g c = adding_short _ _ _ _ c.loop-i.invariant _ c.line-length.ensures (omega arith) (omega arith)
 
 pub loop-i-preserved : goal.loop-i-preserved
-loop-i-preserved c = search laws
-
-pub returns : goal.returns
-returns c = search laws
+loop-i-preserved g c = adding_more _ _ _ _ c.loop-i.invariant _ c.line-length.ensures (omega arith) (omega arith)

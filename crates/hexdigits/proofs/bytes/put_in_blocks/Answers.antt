@@ -1,18 +1,20 @@
-use Rattle.std.proofs.Common.{◌-◌, rules}
-use Rattle.hexdigits.specs.WrittenPairsLaws.{WritingPairs, writing_first, writing_block_failed, writing_rest}
-use Rattle.hexdigits.specs.BlockLaws.{block_failed, block_more}
+use Rattle.std.proofs.Common.{rules}
+use Rattle.hexdigits.specs.WrittenPairsLaws.{writing_first}
+use Rattle.hexdigits.specs.BlockLaws.{block_failed, block_more, rest_failed, rest_more}
 use Rattle.hexdigits.proofs.bytes.put_in_blocks.Goals as goal
 
-pub returns-then-more-ge256 : goal.returns-then-more-ge256
-returns-then-more-ge256 c = search (rules, block_failed)
+pub loop-i-init : goal.loop-i-init
+loop-i-init c = search (rules, writing_first)
+
+pub returns-in_err-more : goal.returns-in_err-more
+returns-in_err-more c = search (rules, block_failed)
 
 pub loop-i-preserved : goal.loop-i-preserved
-loop-i-preserved c =
-    let put = c in
-    let block = put.before.before.before in
-    let inv = block.before.before.loop-i.invariant in
-    let ensured = put.put_pairs-more.ensures in
-    block_more _ _ _ _ _ _ _ _ inv _ block.block_at-block.ensures _ _ ensured (search rules) (search rules) (search rules) (search rules) (search rules)
+loop-i-preserved c = search (rules, block_more, c.in_ok-more.ensures)
+
+pub returns-in_err-rest : goal.returns-in_err-rest
+returns-in_err-rest c = search (rules, rest_failed)
 
 pub returns : goal.returns
-returns c = search (rules, writing_rest)
+returns c =
+    rest_more _ _ _ _ _ _ _ c.loop-i.i c.loop-i.invariant _ (search rules) (search rules) _ c.in_ok-rest.ensures (search rules) (search rules)

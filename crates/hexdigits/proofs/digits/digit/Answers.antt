@@ -1,5 +1,5 @@
 use Rattle.std.proofs.Common.{rules}
-use Rattle.hexdigits.specs.DigitsLaws.{range_above, decimal_digit, upper_case_digit, lower_case_digit, no_digit}
+use Rattle.hexdigits.specs.DigitsLaws.{decimal_digit, upper_case_digit, lower_case_digit, no_digit}
 use Rattle.hexdigits.proofs.digits.digit.Goals as goal
 
 pub returns-then-in_range : goal.returns-then-in_range

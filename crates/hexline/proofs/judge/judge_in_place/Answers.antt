@@ -1,9 +1,12 @@
-use borrow.Author.Rules.{rules}
+use Rattle.std.proofs.Common.{rules}
+use Rattle.std.proofs.lemmas.Result.{err_from_is_err_and}
 use Rattle.hexline.specs.TypedLaws.{judged_good, judged_bad}
 use Rattle.hexline.proofs.judge.judge_in_place.Goals as goal
 
-pub returns-in-Good : goal.returns-in-Good
-returns-in-Good c = search (rules, judged_good)
+pub returns-in_err-header : goal.returns-in_err-header
+returns-in_err-header c =
+    let p = err_from_is_err_and c.from_residual.result c.from_residual.ensures.1 in
+    rw (p.1, p.2) (search (rules, judged_bad, c.in_err-header.was))
 
-pub returns-in-Bad : goal.returns-in-Bad
-returns-in-Bad c = search (rules, judged_bad)
+pub returns : goal.returns
+returns c = search (rules, judged_good, c.in_ok-header.was)

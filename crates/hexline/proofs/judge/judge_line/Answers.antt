@@ -1,21 +1,12 @@
 use borrow.Author.Rules.{rules}
-use Rattle.hexline.specs.JudgeLaws.{bad_short, bad_colon, bad_length, bad_digits, bad_sum, good_line}
+use Rattle.std.proofs.lemmas.Result.{err_from_is_err_and}
+use Rattle.hexline.specs.JudgeLaws.{bad_digits, good_line}
 use Rattle.hexline.proofs.judge.judge_line.Goals as goal
 
-pub returns-then-line-lt11 : goal.returns-then-line-lt11
-returns-then-line-lt11 c = search (rules, bad_short)
-
-pub returns-then-line-ne58 : goal.returns-then-line-ne58
-returns-then-line-ne58 c = search (rules, bad_colon)
-
-pub returns-then-line-count : goal.returns-then-line-count
-returns-then-line-count c = search (rules, bad_length)
-
-pub returns-then-sum-ge256 : goal.returns-then-sum-ge256
-returns-then-sum-ge256 c = search (rules, bad_digits)
-
-pub returns-then-sum-ne0 : goal.returns-then-sum-ne0
-returns-then-sum-ne0 c = search (rules, bad_sum)
+pub returns-in_err-sum : goal.returns-in_err-sum
+returns-in_err-sum c =
+    let p = err_from_is_err_and c.from_residual.result c.from_residual.ensures.1 in
+    rw (p.1, p.2) (search (rules, bad_digits, c.in_err-sum.was))
 
 pub returns : goal.returns
-returns c = search (rules, good_line)
+returns c = search (rules, good_line, c.in_ok-sum.was)

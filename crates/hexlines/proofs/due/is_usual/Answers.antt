@@ -6,5 +6,5 @@ use Rattle.hexlines.proofs.due.is_usual.Goals as goal
 
 pub returns : goal.returns
 returns c =
-    let start = usual_start _ _ (λ i. (c.shared_slice_known-1.given i).fits) c.number4.ensures (search rules) in
+    let start = usual_start _ _ (λ i. (c.shared_slice_known-1.given i).fits) c.at.ensures (search rules) in
     usual_counted _ _ (search rules) start refl

@@ -4,5 +4,5 @@ use Rattle.hexlines.proofs.letters.address_is.Goals as goal
 
 pub returns : goal.returns
 returns c =
-    address_is_due _ (search rules) _ (λ i. (c.shared_slice_known-1.given i).fits) _ c.number2.ensures (search rules)
-    _ c.number4.ensures _ c.spelled.ensures
+    address_is_due _ (search rules) _ (λ i. (c.shared_slice_known-1.given i).fits) _ c.at.ensures (search rules)
+    _ c.at-2.ensures _ c.spelled.ensures

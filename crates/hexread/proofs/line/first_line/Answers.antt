@@ -1,4 +1,5 @@
 use borrow.Author.Rules.{rules}
+use Rattle.std.proofs.lemmas.Result.{err_from_is_err_and}
 use Rattle.hexread.specs.LineLaws.{stop_short, stop_colon, stop_count, stop_end, line_whole, line_counted, step_more, step_last, step_stop}
 use Rattle.hexread.proofs.line.first_line.Goals as goal
 
@@ -11,20 +12,22 @@ returns-then-text-ne58 c = search (rules, stop_colon)
 pub returns-then-count-ge256 : goal.returns-then-count-ge256
 returns-then-count-ge256 c = search (rules, stop_count)
 
-pub returns-then-next-eq0 : goal.returns-then-next-eq0
-returns-then-next-eq0 c = search (rules, stop_end)
-
 pub slice_bounds-take_record-end : goal.slice_bounds-take_record-end
 slice_bounds-take_record-end c = search (rules, line_whole)
 
-pub take_record-taken-requires : goal.take_record-taken-requires
-take_record-taken-requires c = search (rules, line_counted)
+pub take_record-requires : goal.take_record-requires
+take_record-requires c = search (rules, line_counted)
 
 pub returns-in-Data : goal.returns-in-Data
-returns-in-Data c = search (rules, step_more)
+returns-in-Data c = search (rules, step_more, c.in_ok-record.was)
 
 pub returns-in-End : goal.returns-in-End
-returns-in-End c = search (rules, step_last)
+returns-in-End c = search (rules, step_last, c.in_ok-record.was)
 
-pub returns-in-Fault : goal.returns-in-Fault
-returns-in-Fault c = search (rules, step_stop)
+pub returns-in_default : goal.returns-in_default
+returns-in_default c = search (rules, stop_end)
+
+pub returns-in_err-record : goal.returns-in_err-record
+returns-in_err-record c =
+    let p = err_from_is_err_and c.from_residual.result c.from_residual.ensures.1 in
+    rw (p.1, p.2) (search (rules, step_stop, c.in_err-record.was))

@@ -6,4 +6,4 @@ pub loop-start-init : goal.loop-start-init
 loop-start-init c = search (rules, reading_first)
 
 pub returns : goal.returns
-returns c = rw c.text_refused-2.ensures (search (rules, reading_stops))
+returns c = rw c.refused-2.ensures (search (rules, reading_stops))

@@ -1,11 +1,6 @@
-use Rattle.std.proofs.Common.{◌-◌, length, rules}
-use Rattle.numbers.specs.SlicesLaws.{Summing, summing_first, summing_more, summing_end}
+use Rattle.std.proofs.Common.{◌≡◌, ◌+◌, ◌%◌, ◌∙◌, fold, rules}
+use Rattle.numbers.specs.SlicesLaws.{bytes_added}
 use Rattle.numbers.proofs.slices.byte_sum.Goals as goal
 
-ruleset laws = (rules, summing_first, summing_more, summing_end)
-
-pub loop-i-preserved : goal.loop-i-preserved
-loop-i-preserved c = search laws
-
 pub returns : goal.returns
-returns c = search laws
+returns c = let added : c.fold.result ≡ fold (λ sum byte. (sum + byte) % 65536) 0 c.args.bytes.now = search rules in added ∙ bytes_added c.args.bytes.now

@@ -1,51 +1,59 @@
 use Rattle.std.specs.Int.{w64}
 use Rattle.std.proofs.Common.{sym, ◌∙◌, SFits, to_z-of_z, rules}
-use Rattle.reading.specs.Gauge.{gauge_of}
-use Rattle.reading.specs.MeasuredLaws.{frequencies_bound, result_bound, no_frequencies, no_results, measured_shown}
+use Rattle.reading.specs.Gauge.{set_of}
+use Rattle.reading.specs.ValueLaws.{passed_on}
+use Rattle.reading.specs.Measured.{measured_of}
+use Rattle.reading.specs.MeasuredLaws.{set_bound, none_shown, next_shown}
 use Rattle.reading.proofs.measure.measured.Goals as goal
 
-pub results-requires : goal.results-requires
-results-requires c =
-    let fp : SFits w64 c.in-Known.fp = search rules in
-    let ft : SFits w64 c.in-Known.ft = search rules in
-    let gauge = gauge_of c.args.identity c.args.pressure_set.now c.args.temperature_set.now c.args.trimming in
-    let known = sym c.frequencies.ensures ∙ c.in-Known.is in
-    rw (to_z-of_z fp, to_z-of_z ft) (frequencies_bound _ gauge c.in-Known.fp c.in-Known.ft known)
+pub returns-in_err-fp : goal.returns-in_err-fp
+unfolding measured_of
+returns-in_err-fp c = passed_on c.from_residual.ensures.1 ∙ none_shown c.frequency.ensures _ c.in_err-fp.was
+
+pub returns-in_err-ft : goal.returns-in_err-ft
+unfolding measured_of
+returns-in_err-ft c =
+    next_shown c.frequency.ensures _ c.in_ok-fp.was (passed_on c.from_residual-in_err-ft.ensures.1 ∙ none_shown c.frequency-2.ensures _ c.in_err-ft.was)
+
+pub returns-in_err-pressure : goal.returns-in_err-pressure
+unfolding measured_of
+returns-in_err-pressure c =
+    let fp : SFits w64 c.in_ok-fp.fp = search rules in
+    let ft : SFits w64 c.in_ok-ft.ft = search rules in
+    let result = rw (to_z-of_z fp, to_z-of_z ft) at c.set_result.ensures in
+    next_shown c.frequency.ensures _ c.in_ok-fp.was
+    (next_shown c.frequency-2.ensures _ c.in_ok-ft.was
+    (passed_on c.from_residual-in_err-pressure.ensures.1 ∙ none_shown result _ c.in_err-pressure.was))
+
+pub returns-in_err-temperature : goal.returns-in_err-temperature
+unfolding measured_of
+returns-in_err-temperature c =
+    let fp : SFits w64 c.in_ok-fp.fp = search rules in
+    let ft : SFits w64 c.in_ok-ft.ft = search rules in
+    let result = rw (to_z-of_z fp, to_z-of_z ft) at c.set_result.ensures in
+    let other = rw (to_z-of_z fp, to_z-of_z ft) at c.set_result-2.ensures in
+    next_shown c.frequency.ensures _ c.in_ok-fp.was
+    (next_shown c.frequency-2.ensures _ c.in_ok-ft.was
+    (next_shown result _ c.in_ok-pressure.was
+    (passed_on c.from_residual-in_err-temperature.ensures.1 ∙ none_shown other _ c.in_err-temperature.was)))
 
 pub shown_by-requires : goal.shown_by-requires
 shown_by-requires c =
-    let fp : SFits w64 c.in-Known.fp = search rules in
-    let ft : SFits w64 c.in-Known.ft = search rules in
-    let pressure : SFits w64 c.in-Known-results.pressure = search rules in
-    let gauge = gauge_of c.args.identity c.args.pressure_set.now c.args.temperature_set.now c.args.trimming in
-    let known = sym c.frequencies.ensures ∙ c.in-Known.is in
-    let results = sym (rw (to_z-of_z fp, to_z-of_z ft) at c.results.ensures) ∙ c.in-Known-results.is in
-    rw (to_z-of_z pressure) (result_bound _ gauge _ _ known c.in-Known-results.pressure c.in-Known-results.temperature results)
+    let pressure : SFits w64 c.in_ok-pressure.pressure = search rules in
+    rw (to_z-of_z pressure) (set_bound 2 1 (set_of c.args.pressure_set.now) _ _ c.in_ok-pressure.pressure (sym c.set_result.ensures ∙ c.in_ok-pressure.was))
 
-pub returns-in-Known-results : goal.returns-in-Known-results
-returns-in-Known-results c =
-    let fp : SFits w64 c.in-Known.fp = search rules in
-    let ft : SFits w64 c.in-Known.ft = search rules in
-    let pressure : SFits w64 c.in-Known-results.pressure = search rules in
-    let temperature : SFits w64 c.in-Known-results.temperature = search rules in
+pub returns : goal.returns
+unfolding measured_of
+returns c =
+    let fp : SFits w64 c.in_ok-fp.fp = search rules in
+    let ft : SFits w64 c.in_ok-ft.ft = search rules in
+    let pressure : SFits w64 c.in_ok-pressure.pressure = search rules in
+    let temperature : SFits w64 c.in_ok-temperature.temperature = search rules in
     let p = to_z-of_z pressure in
     let t = to_z-of_z temperature in
-    let gauge = gauge_of c.args.identity c.args.pressure_set.now c.args.temperature_set.now c.args.trimming in
-    let known = sym c.frequencies.ensures ∙ c.in-Known.is in
-    let results = sym (rw (to_z-of_z fp, to_z-of_z ft) at c.results.ensures) ∙ c.in-Known-results.is in
-    (rw (p, t, rw (p, t) at c.mark-outside.ensures) at c.shown_by.ensures)
-    ∙ measured_shown _ gauge _ _ known c.in-Known-results.pressure c.in-Known-results.temperature results
-
-pub returns-in-Refused-results : goal.returns-in-Refused-results
-returns-in-Refused-results c =
-    let fp : SFits w64 c.in-Known.fp = search rules in
-    let ft : SFits w64 c.in-Known.ft = search rules in
-    let gauge = gauge_of c.args.identity c.args.pressure_set.now c.args.temperature_set.now c.args.trimming in
-    let known = sym c.frequencies.ensures ∙ c.in-Known.is in
-    let results = sym (rw (to_z-of_z fp, to_z-of_z ft) at c.results.ensures) ∙ c.in-Refused-results.is in
-    no_results _ gauge _ _ known c.in-Refused-results.refusal results
-
-pub returns-in-Refused : goal.returns-in-Refused
-returns-in-Refused c =
-    let gauge = gauge_of c.args.identity c.args.pressure_set.now c.args.temperature_set.now c.args.trimming in
-    no_frequencies _ gauge c.in-Refused.refusal (sym c.frequencies.ensures ∙ c.in-Refused.is)
+    let result = rw (to_z-of_z fp, to_z-of_z ft) at c.set_result.ensures in
+    let other = rw (to_z-of_z fp, to_z-of_z ft) at c.set_result-2.ensures in
+    next_shown c.frequency.ensures _ c.in_ok-fp.was
+    (next_shown c.frequency-2.ensures _ c.in_ok-ft.was
+    (next_shown result _ c.in_ok-pressure.was
+    (next_shown other _ c.in_ok-temperature.was (rw (p, t, rw (p, t) at c.mark-mark.ensures) at c.shown_by.ensures))))

@@ -1,7 +1,6 @@
-use borrow.Author.Rules.{rules}
-use Rattle.numbers.specs.FieldsLaws.{signed_of_bytes}
-use Rattle.laws.specs.SignedBits.{read_as}
+use Rattle.std.proofs.Common.{rules}
+use Rattle.sets.specs.SetLaws.{coefficient_read}
 use Rattle.sets.proofs.coefficients.coefficient.Goals as goal
 
 pub returns : goal.returns
-returns c = search (rules, read_as, signed_of_bytes 8)
+returns c = search (rules, coefficient_read)

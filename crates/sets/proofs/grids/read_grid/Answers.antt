@@ -1,8 +1,5 @@
-use Prim.Native.Nat.{◌-◌}
-use native.Mathlib.Omega.{arith}
 use borrow.Author.Rules.{rules}
-use Rattle.laws.specs.Loops.{FilledTo, filled_none, filled_more}
-use Rattle.sets.specs.Set.{rows_from}
+use Rattle.laws.specs.Loops.{filled_none, filled_more}
 use Rattle.sets.specs.GridLaws.{too_short, count_fits, coefficients_fit, length_fits, rows_next, rows_filled}
 use Rattle.sets.proofs.grids.read_grid.Goals as goal
 

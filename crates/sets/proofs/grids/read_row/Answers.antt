@@ -1,7 +1,5 @@
-use Prim.Native.Nat.{◌-◌}
 use borrow.Author.Rules.{rules}
-use Rattle.laws.specs.Loops.{FilledTo, filled_none, filled_more}
-use Rattle.sets.specs.Set.{row_from}
+use Rattle.laws.specs.Loops.{filled_none, filled_more}
 use Rattle.laws.specs.SignedBits.{read_as}
 use Rattle.sets.specs.GridLaws.{row_next, row_filled}
 use Rattle.sets.proofs.grids.read_row.Goals as goal

@@ -1,8 +1,5 @@
-use Prim.Native.Nat.{◌-◌}
 use borrow.Author.Rules.{rules}
-use Rattle.refusals.specs.FieldsVerdictLaws.{FieldsRightBefore}
 use Rattle.refusals.specs.TestsLaws.{loop}
-use Rattle.sets.specs.Set.{coefficient_field}
 use Rattle.sets.proofs.sets.coefficients_verdict.Goals as goal
 
 ruleset laws = (rules, loop)

@@ -1,12 +1,6 @@
-use Prim.Native.Nat.{◌-◌}
-use borrow.Author.Rules.{rules}
 use Rattle.refusals.specs.FieldsVerdictLaws.{FieldsRightBefore}
-use Rattle.refusals.specs.TestsLaws.{loop}
 use Rattle.sets.specs.Set.{coefficient_field}
 use Rattle.sets.proofs.sets.coefficients_verdict.Given as goal
 
 abbrev pub invariant-loop-i : goal.invariant-loop-i
 invariant-loop-i l = FieldsRightBefore l.number (coefficient_field l.body) l.count l.i
-
-abbrev pub decreases-loop-i : goal.decreases-loop-i
-decreases-loop-i l = l.count - l.i

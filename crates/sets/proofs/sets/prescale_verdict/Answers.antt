@@ -1,4 +1,3 @@
-use borrow.Author.Rules.{rules}
 use Rattle.refusals.specs.TestsLaws.{fields}
 use Rattle.sets.specs.SetLaws.{zero_multiplier_told, zero_offset_told, multiplier_told, offset_told}
 use Rattle.sets.proofs.sets.prescale_verdict.Goals as goal

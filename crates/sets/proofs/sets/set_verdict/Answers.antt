@@ -1,4 +1,3 @@
-use borrow.Author.Rules.{rules}
 use Rattle.refusals.specs.TestsLaws.{fields}
 use Rattle.sets.specs.Set.{set_fields}
 use Rattle.sets.proofs.sets.set_verdict.Goals as goal
@@ -7,13 +6,13 @@ pub returns-then-body-lt4 : goal.returns-then-body-lt4
 unfolding set_fields
 returns-then-body-lt4 c = search fields depth 12
 
-pub returns-then-number1-ne-PRESCALE_ALGORITHM : goal.returns-then-number1-ne-PRESCALE_ALGORITHM
+pub returns-then-at-ne-PRESCALE_ALGORITHM : goal.returns-then-at-ne-PRESCALE_ALGORITHM
 unfolding set_fields
-returns-then-number1-ne-PRESCALE_ALGORITHM c = search fields depth 12
+returns-then-at-ne-PRESCALE_ALGORITHM c = search fields depth 12
 
-pub returns-then-number1-ne-PRESCALE_ALGORITHM-2 : goal.returns-then-number1-ne-PRESCALE_ALGORITHM-2
+pub returns-then-at-ne-PRESCALE_ALGORITHM-2 : goal.returns-then-at-ne-PRESCALE_ALGORITHM-2
 unfolding set_fields
-returns-then-number1-ne-PRESCALE_ALGORITHM-2 c = search fields depth 12
+returns-then-at-ne-PRESCALE_ALGORITHM-2 c = search fields depth 12
 
 pub returns-then-pressure-gt-HIGHEST_ORDER : goal.returns-then-pressure-gt-HIGHEST_ORDER
 unfolding set_fields

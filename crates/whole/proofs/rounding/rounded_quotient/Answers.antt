@@ -1,6 +1,6 @@
 use native.Mathlib.Omega.{arith}
 use borrow.Author.Rules.{rules}
-use Rattle.whole.specs.RoundedLaws.{rounded_of_zero, one_more_fits, rounded_up, rounded_down}
+use Rattle.whole.specs.RoundedLaws.{rounded_of_zero, rounded_up, rounded_down}
 use Rattle.whole.proofs.rounding.rounded_quotient.Goals as goal
 
 pub returns-then-d-eq0 : goal.returns-then-d-eq0

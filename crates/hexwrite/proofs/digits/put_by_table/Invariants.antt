@@ -1,9 +1,0 @@
-use Rattle.std.proofs.Common.{◌-◌, length}
-use Rattle.hexwrite.specs.DigitsLaws.{WritingBytes}
-use Rattle.hexwrite.proofs.digits.put_by_table.Given as goal
-
-abbrev pub invariant-loop-i : goal.invariant-loop-i
-invariant-loop-i l = WritingBytes l.at l.bytes l.initial.text l.text l.i
-
-abbrev pub decreases-loop-i : goal.decreases-loop-i
-decreases-loop-i l = length l.bytes - l.i

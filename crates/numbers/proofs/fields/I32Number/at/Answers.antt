@@ -1,0 +1,9 @@
+use Rattle.std.proofs.Common.{w32}
+use Rattle.laws.specs.SignedBits.{read_as}
+use Rattle.numbers.specs.FieldsLaws.{signed_at_read}
+use Rattle.numbers.proofs.fields.I32Number.at.Goals as goal
+
+pub returns : goal.returns
+returns c =
+    let read = signed_at_read w32 c.at.result _ c.cast_signed.result c.cast_signed.ensures c.at.type_inv c.at.ensures in
+    read_as w32 c.cast_signed.result _ c.cast_signed.type_inv read
