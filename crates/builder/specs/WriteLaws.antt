@@ -1,7 +1,7 @@
 -- The image's bytes as they are written: what stands before a place is the image so far.
-use Rattle.std.specs.Prelude.{◌≡◌, List, [], ◌∷◌, ◌++◌, ℕ, ◌+◌, ◌/◌, ◌%◌, ◌≤◌, ◌<◌, take, drop, get_or, Ok}
+use Rattle.std.specs.Prelude.{◌≡◌, List, [], ◌∷◌, ◌++◌, ℕ, suc, slice_index, slice_set, ◌+◌, ◌/◌, ◌%◌, ◌≤◌, ◌<◌, take, drop, get_or, Ok}
 use Rattle.std.proofs.Math.Path.{refl}
-use Rattle.std.proofs.Common.{sym, ap, ◌∙◌, append_assoc, append-nil, add-zero, add_assoc, arith, length-drop, drop_of_length-le, length-take-le, drop-drop}
+use Rattle.std.proofs.Common.{sym, ap, ◌∙◌, append_assoc, append-nil, add-zero, add-one, add_assoc, arith, length-drop, length-set, drop_of_length-le, length-take-le, take-suc, take-suc-set, take_all, drop-drop}
 use Rattle.std.proofs.Math.ListN.{length}
 use Rattle.std.specs.Int.{w16, to_le_bytes}
 use Rattle.laws.specs.Sums.{total}
@@ -14,6 +14,35 @@ use Rattle.builder.specs.Build.{sections_of, lengths_total}
 use Rattle.builder.specs.Lines.{no_line}
 use Rattle.builder.specs.BuildLaws.{AcceptedLines, sections_counted, bodies_whole, line_small}
 use Rattle.builder.specs.CheckLaws.{lines_left, total_left}
+
+-- ---- bytes in a row
+
+-- i of the bytes are put, from `place` on
+pub record Putting (place : ℕ) (bytes before : List ℕ) (i : ℕ) (image : List ℕ) : Type 0 where
+  pub upto : i ≤ length bytes
+  pub kept : length image ≡ length before
+  pub wrote : take (place + i) image ≡ take place before ++ take i bytes
+
+pub putting_first : (place : ℕ) (bytes image : List ℕ) → Putting place bytes image 0 image
+putting_first place bytes image = record { upto = omega arith; kept = refl; wrote = rw (add-zero place) (sym (append-nil (take place image))) }
+
+module _ (place : ℕ) (bytes before : List ℕ) (i : ℕ) (image : List ℕ) (p : Putting place bytes before i image) where
+  pub putting_more : (to from : ℕ) → to ≡ place + i → from ≡ i → place + length bytes ≤ length before → i < length bytes
+      → Putting place bytes before (i + 1) (slice_set image to (slice_index bytes from))
+  putting_more to from e f room k =
+      let next : place + (i + 1) ≡ suc (place + i) = omega arith in
+      let there : place + i < length image = omega (arith, p.kept) in
+      record {
+        upto = omega arith;
+        kept = length-set image to (slice_index bytes from) ∙ p.kept;
+        wrote = rw (e, f, next, take-suc-set image (place + i) (slice_index bytes i) there, p.wrote, add-one i, take-suc bytes i 0 k)
+            (append_assoc (take place before) (take i bytes) (slice_index bytes i ∷ []));
+      }
+
+  pub putting_end : length bytes ≤ i → take (place + length bytes) image ≡ take place before ++ bytes
+  putting_end k =
+      let end : i ≡ length bytes = omega (arith, p.upto) in
+      rw end at (rw (take_all i bytes k) at p.wrote)
 
 -- ---- the contents lines
 

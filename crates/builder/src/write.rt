@@ -13,12 +13,15 @@ use limits::{FIRST_BYTE, HEAD_SIZE, LINE_SIZE};
 use numbers::slices;
 use refusals::Filled;
 
-// Bytes from `place` on.
+// Bytes from `place` on. Each by itself: a copy of a length that the compiler doesn't know is a call of `memmove`.
+#[tactic(auto, using(crate::specs::WriteLaws::putting_first, crate::specs::WriteLaws::putting_more, crate::specs::WriteLaws::putting_end))]
 fn put(image: &mut [u8], place: usize, bytes: &[u8])
     requires { place + length bytes.now ≤ length image.old }
     ensures { take (place + length bytes.now) image.new ≡ take place image.old ++ bytes.now }
 {
-    image[place..place + bytes.len()].copy_from_slice(bytes);
+    for (i, byte) in bytes.iter().enumerate() {
+        image[place + i] = *byte;
+    }
 }
 
 // A contents line from `place` on.

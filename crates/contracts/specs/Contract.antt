@@ -10,10 +10,10 @@ use borrow.Fn.World.{World, Pr}
 
 -- T is a function's signature.
 module _ (T : Ended) where
-  abbrev Lifetimes : Type 0
+  abbrev pub Lifetimes : Type 0
   Lifetimes = Lfts T.signature.lifetimes
 
-  abbrev Arguments : Lifetimes → Type 0
+  abbrev pub Arguments : Lifetimes → Type 0
   Arguments = Args T.signature
 
   abbrev Answer : Lifetimes → Type 0
@@ -38,7 +38,8 @@ module _ (T : Ended) where
   abbrev pub AsksNothing : ((κs : Lifetimes) → Arguments κs → Unit {0} → (w : World) → Pr w) → Type 2
   AsksNothing requires = (κs : Lifetimes) (a : Arguments κs) (w : World) → requires κs a tt w ≡ emp w.𝓤
 
-  -- The same of a function with a const parameter, which it asks of alone: that what is borrowed in the parameter's type lives long enough. A number borrows nothing.
+  -- The same of a function with a parameter, which it asks of alone: that what is borrowed in the parameter's type lives long enough.
+  -- Where nothing is borrowed, it asks nothing (`ContractLaws.asks_nothing`).
   abbrev pub AsksItsParameter : ((κs : Lifetimes) → Type 0) → ((κs : Lifetimes) → Arguments κs → Unit {0} → (w : World) → Pr w) → Type 2
   AsksItsParameter lives requires = (κs : Lifetimes) (a : Arguments κs) (w : World) → requires κs a tt w ≡ sep w.𝓤 (fact w.𝓤 (lives κs)) (emp w.𝓤)
 

@@ -10,7 +10,12 @@ use Rattle.refusals.specs.ForC.{FillsForC}
 use Rattle.image.specs.Find.{Found}
 use Rattle.lamp.specs.declared.Panel.{Panel}
 use Rattle.lamp.specs.Panel.{Standing, standing}
-use Rattle.contracts.specs.Contract.{SamePart}
+use base.Logic.{SProp, emp, sep, emp∗, snd∗, mono_l, guard_i, via, both⊢}
+use contract.Fact.{fact}
+use seplogic.Ra.Ura.{Ura}
+use denote.Triple.Clauses.{Ended}
+use borrow.Fn.World.{World, Pr}
+use Rattle.contracts.specs.Contract.{SamePart, Lifetimes, Arguments, AsksNothing, AsksItsParameter}
 
 pub determined : {A : Type 0} {r r' said : A} → r ≡ said → r' ≡ said → r ≡ r'
 determined e f = e ∙ sym f
@@ -46,3 +51,14 @@ first {none = none} e = (e.0, λ i. (e.1 i, none))
 
 pub next : {A N B : Type 0} {none : N} {b b' : B} → A × (b ≡ b') → A × (◌≡◌ {A = N × B} (none, b) (none, b'))
 next {none = none} e = (e.0, λ i. (none, e.1 i))
+
+-- ---- a function asks nothing where what it asks of its parameter always holds
+
+module _ {M : Type 1} (𝓤 : Ura M) (φ : Type 0) where
+  nothing_asked : φ → sep 𝓤 (fact 𝓤 φ) (emp 𝓤) ≡ emp 𝓤
+  nothing_asked holds =
+      both⊢ 𝓤 (snd∗ 𝓤 (fact 𝓤 φ) (emp 𝓤)) (via 𝓤 (sep 𝓤 (emp 𝓤) (emp 𝓤)) (emp∗ 𝓤 (emp 𝓤)) (mono_l 𝓤 (emp 𝓤) (guard_i 𝓤 φ (emp 𝓤) holds)))
+
+pub asks_nothing : (T : Ended) (lives : (κs : Lifetimes T) → Type 0) (requires : (κs : Lifetimes T) → Arguments T κs → Unit {0} → (w : World) → Pr w)
+    → AsksItsParameter T lives requires → ((κs : Lifetimes T) → lives κs) → AsksNothing T requires
+asks_nothing T lives requires asks holds κs a w = asks κs a w ∙ nothing_asked w.𝓤 (lives κs) (holds κs)

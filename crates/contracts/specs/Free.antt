@@ -1,8 +1,9 @@
 -- Nothing has to be tested before a call: no public function's contract asks anything of its caller. `requires` is the function's own, as Rattle exports it.
 -- `tools/contracts` fails where a public function is left out.
 use denote.Param.{number}
-use contract.BorrowLft.{◌⊑◌}
-use Rattle.std.specs.Prelude.{ℕ, refl, []}
+use denote.RattleType.{RattleType}
+use contract.BorrowLft.{◌⊑◌, ⊑_static}
+use Rattle.std.specs.Prelude.{◌≡◌, ℕ, refl, []}
 use Rattle.whole.specs.contracts as whole
 use Rattle.whole.proofs as whole_proofs
 use Rattle.whole.specs.contracts.rounding as rounding
@@ -56,6 +57,7 @@ use Rattle.bjorkneve.proofs as bjorkneve_proofs
 use Rattle.display.specs.contracts as display
 use Rattle.display.proofs as display_proofs
 use Rattle.contracts.specs.Contract.{AsksNothing, AsksItsParameter}
+use Rattle.contracts.specs.ContractLaws.{asks_nothing}
 use Rattle.calls.specs.BuildReads as build
 
 -- whole
@@ -71,8 +73,10 @@ beyond_free _ _ _ = refl
 pub wrapped_sum_free : AsksNothing whole.wrapped_sum.ended whole_proofs.wrapped_sum.Reads.requires
 wrapped_sum_free _ _ _ = refl
 
-pub rounded_over_free : (POWER : ℕ) (fits : _) → AsksItsParameter (rounding.rounded_over.ended (number POWER)) (λ κs. κs.0 ⊑ []) (rounding_proofs.rounded_over.Reads.requires POWER fits)
-rounded_over_free POWER fits _ _ _ = refl
+pub rounded_over_free : (POWER : ℕ) (fits : _) → AsksNothing (rounding.rounded_over.ended (number POWER)) (rounding_proofs.rounded_over.Reads.requires POWER fits)
+rounded_over_free POWER fits =
+    asks_nothing (rounding.rounded_over.ended (number POWER)) (λ κs. κs.0 ⊑ []) (rounding_proofs.rounded_over.Reads.requires POWER fits)
+    (λ _ _ _. refl) (λ κs. ⊑_static κs.0)
 
 pub rounded_quotient_free : AsksNothing rounding.rounded_quotient.ended rounding_proofs.rounded_quotient.Reads.requires
 rounded_quotient_free _ _ _ = refl
@@ -123,6 +127,13 @@ number_free _ _ _ = refl
 
 pub refused_by_reason_free : (T : _) (laws : _) → AsksItsParameter (reason.Reason.refused.ended T) (λ κs. κs.0 ⊑ T.lives) (reason_proofs.Reason.refused.Reads.requires T laws)
 refused_by_reason_free T laws _ _ _ = refl
+
+-- and nothing where T borrows nothing, as what any function of the house answers
+refused_by_reason_unborrowed : (T : RattleType) (laws : _) → T.lives ≡ []
+    → AsksNothing (reason.Reason.refused.ended T) (reason_proofs.Reason.refused.Reads.requires T laws)
+refused_by_reason_unborrowed T laws e =
+    asks_nothing (reason.Reason.refused.ended T) (λ κs. κs.0 ⊑ T.lives) (reason_proofs.Reason.refused.Reads.requires T laws) (refused_by_reason_free T laws)
+    (λ κs. rw e (⊑_static κs.0))
 
 pub refused_at_by_reason_free : AsksNothing reason.Reason.refused_at.ended reason_proofs.Reason.refused_at.Reads.requires
 refused_at_by_reason_free _ _ _ = refl

@@ -40,12 +40,15 @@ fn put_pairs(
 }
 
 // A block's characters, copied: so the compiler knows that the buffer does not alias them.
+#[tactic(auto, using(crate::specs::BlockLaws::copied_first, crate::specs::BlockLaws::copied_more, crate::specs::BlockLaws::copied_end))]
 fn block_at(characters: &[u8], from: usize) -> [u8; BLOCK_CHARACTERS]
     requires { from + 32 ≤ length characters.now }
     ensures { result ≡ take 32 (drop from characters.now) }
 {
     let mut block = [0u8; BLOCK_CHARACTERS];
-    block.copy_from_slice(&characters[from..from + BLOCK_CHARACTERS]);
+    for i in 0..BLOCK_CHARACTERS {
+        block[i] = characters[from + i];
+    }
     block
 }
 
@@ -61,13 +64,14 @@ fn put_in_blocks(
     ensures { PairsWritten characters.now from count buffer.old buffer.new to result }
 {
     let mut sum: u8 = 0;
-    let blocks = count / BLOCK;
-    for i in 0..blocks {
+    // Counted, not worked out as a multiple: the loop over a rest that is known to be shorter than a block would not vectorise.
+    let mut put: usize = 0;
+    for i in 0..count / BLOCK {
         let block = block_at(characters, from + i * BLOCK_CHARACTERS);
         let more = put_pairs(&block, 0, BLOCK, buffer, to + i * BLOCK)?;
         sum = sum.wrapping_add(more);
+        put += BLOCK;
     }
-    let put = blocks * BLOCK;
     let rest = put_pairs(characters, from + put * 2, count - put, buffer, to + put)?;
     Some(sum.wrapping_add(rest))
 }

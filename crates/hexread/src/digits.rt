@@ -15,11 +15,33 @@ pub struct DigitTable {
 
 impl DigitTable {
     pub(crate) fn new() -> DigitTable {
-        let letters = [10, 11, 12, 13, 14, 15];
         let mut values = [NO_DIGIT as u16; 256];
-        values[48..58].copy_from_slice(&[0, 1, 2, 3, 4, 5, 6, 7, 8, 9]);
-        values[65..71].copy_from_slice(&letters);
-        values[97..103].copy_from_slice(&letters);
+        // Each by itself: a copy of a slice compares where both lie, and the compiler then keeps the table, of 512 bytes, more than once.
+        // 0 to 9
+        values[48] = 0;
+        values[49] = 1;
+        values[50] = 2;
+        values[51] = 3;
+        values[52] = 4;
+        values[53] = 5;
+        values[54] = 6;
+        values[55] = 7;
+        values[56] = 8;
+        values[57] = 9;
+        // A to F
+        values[65] = 10;
+        values[66] = 11;
+        values[67] = 12;
+        values[68] = 13;
+        values[69] = 14;
+        values[70] = 15;
+        // a to f
+        values[97] = 10;
+        values[98] = 11;
+        values[99] = 12;
+        values[100] = 13;
+        values[101] = 14;
+        values[102] = 15;
         DigitTable { values }
     }
 

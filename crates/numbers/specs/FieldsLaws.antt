@@ -1,12 +1,13 @@
 -- Laws of numbers among bytes: a number of two halves, a byte, nothing past the end, a number of its own bytes, a bound, a sign.
-use Rattle.std.specs.Prelude.{◌≡◌, ℕ, zero, suc, ◌+◌, ◌-◌, ◌*◌, ◌^◌, ◌<◌, ◌≤◌, cond, nat_lt, List, [], ◌∷◌, ◌++◌, length, take, drop, replicate, min, ℤ, pos, negsuc, ◌-ℤ◌, slice_index, refl}
-use Rattle.std.proofs.Common.{sym, ◌∙◌, mul_assoc, mul_comm, pow-suc, zero-add, drop_of_length-le, drop-cons, drop-drop, take-take, take_all, length-drop}
+use Rattle.std.specs.Prelude.{◌≡◌, ℕ, zero, suc, ◌+◌, ◌-◌, ◌*◌, ◌^◌, ◌<◌, ◌≤◌, cond, nat_lt, List, [], ◌∷◌, ◌++◌, length, take, drop, replicate, min, ℤ, pos, negsuc, ◌-ℤ◌, slice_index, slice_set, refl}
+use Rattle.std.proofs.Common.{sym, ◌∙◌, mul_assoc, mul_comm, pow-suc, zero-add, add-one, append_assoc, drop_of_length-le, drop-cons, drop-drop, take-take, take-suc, take_all, length-drop, length-take-le}
 use Rattle.std.proofs.lemmas.List.{take-append-le, take-replicate, drop-replicate}
 use Rattle.std.proofs.Math.Nat.{one-le-pow}
 use native.Mathlib.Omega.{arith}
 use borrow.Author.Tests.{lt-ltb, le-ltb}
 use Rattle.std.proofs.Math.ListN.{get_or-eq_default}
-use Rattle.std.proofs.Math.Seq.{take-nil, take-append-add}
+use Rattle.std.proofs.Math.ListN.{length-replicate}
+use Rattle.std.proofs.Math.Seq.{take-nil, take-append-add, set-append_seam}
 use Rattle.std.specs.Int.{Width, w8, w16, w32, w64, w128}
 use Rattle.std.specs.Int.{byte_worth, sum_through}
 use mir.Val.{bits, hbits, to_z}
@@ -125,6 +126,33 @@ zeros_after w rest h =
     take-replicate (w - length rest) w 0 (omega arith) ∙ sym (drop-replicate (length rest) w 0) in
     rw (← zeros) (sym (rw (← e) at (take-append-add rest (replicate w 0) (w - length rest))))
 
+-- of i places of the array those that the rest has are written
+pub record Padding (w : ℕ) (rest : List ℕ) (i : ℕ) (padded : List ℕ) : Type 0 where
+  pub is : padded ≡ take i rest ++ drop (length (take i rest)) (replicate w 0)
+
+pub padding_first : (w : ℕ) (rest : List ℕ) → Padding w rest 0 (replicate w 0)
+padding_first w rest = record { is = refl }
+
+module _ (w : ℕ) (rest : List ℕ) (i : ℕ) (padded : List ℕ) (h : Padding w rest i padded) where
+  pub padding_more : (to from : ℕ) → to ≡ i → from ≡ i → i < w → i < length rest → Padding w rest (i + 1) (slice_set padded to (slice_index rest from))
+  padding_more to from e f k there =
+      let front : length (take i rest) ≡ i = length-take-le i rest (omega arith) in
+      let next : length (take (suc i) rest) ≡ suc i = length-take-le (suc i) rest (omega arith) in
+      let after = drop (suc i) (replicate w 0) in
+      let zeros : drop i (replicate w 0) ≡ slice_index (replicate w 0) i ∷ after =
+      drop-cons (replicate w 0) i 0 (omega (arith, length-replicate {A = ℕ} w 0)) in
+      let written = set-append_seam (take i rest) (slice_index (replicate w 0) i) after (slice_index rest i) in
+      record {
+        is = rw (e, f, add-one i, next, take-suc rest i 0 there, append_assoc (take i rest) (slice_index rest i ∷ []) after, h.is, front, zeros)
+            (rw front at written);
+      }
+
+  pub padding_past : length rest ≤ i → Padding w rest (i + 1) padded
+  padding_past past = record { is = rw (take_all (i + 1) rest (omega arith)) (rw (take_all i rest past) at h.is) }
+
+  pub padding_end : w ≤ i → length rest < w → padded ≡ take w (rest ++ replicate w 0)
+  padding_end k short = (rw (take_all i rest (omega arith)) at h.is) ∙ zeros_after w rest short
+
 pub rest_from : (place k : ℕ) (l : List ℕ) → k ≡ min place (length l) → take (length l - k) (drop k l) ≡ drop place l
 rest_from place k l e = take_all (length l - k) (drop k l) (omega (arith, length-drop k l)) ∙ same
   where
@@ -153,14 +181,17 @@ spelled_through (suc k) l =
     let f : 0 + suc k ≡ suc k = omega arith in
     rw (e, mul_comm (slice_index l (suc k)) (256 ^ suc k)) (number_of_halves (suc k) 1 l 0 (spelled_through k l) (rw f (sym (byte_at_lem l (suc k)))))
 
--- r is read from b, an array of the k + 1 bytes from a place on, with zeros past the end
-module _ (k : ℕ) (l b : List ℕ) (place r : ℕ) (there : b ≡ take (suc k) (drop place l ++ replicate (suc k) 0)) where
+-- r is read from b, an array of the k + 1 bytes from a place on, with zeros past the end; `from` is that place as it is worked out
+module _ (k : ℕ) (l b : List ℕ) (from place r : ℕ) (there : b ≡ take (suc k) (drop from l ++ replicate (suc k) 0)) (same : from ≡ place) where
   spelled_there : number_at (suc k) b 0 ≡ number_at (suc k) l place
   unfolding number_at
-  spelled_there = rw (there, take-take (suc k) (suc k) (drop place l ++ replicate (suc k) 0) (omega arith)) (padded (suc k) (suc k) (drop place l))
+  spelled_there = rw (there, same, take-take (suc k) (suc k) (drop place l ++ replicate (suc k) 0) (omega arith)) (padded (suc k) (suc k) (drop place l))
 
   pub number_read : r ≡ sum_through (λ i. byte_worth i (slice_index b i)) k → r ≡ number_at (suc k) l place
   number_read e = e ∙ spelled_through k b ∙ spelled_there
+
+pub read_there : (w : ℕ) (l : List ℕ) (from place n : ℕ) → from ≡ place → n ≡ number_at w l from → n ≡ number_at w l place
+read_there w l from place n e f = rw e at f
 
 -- ---- the sign, at a width
 

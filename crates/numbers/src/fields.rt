@@ -68,6 +68,11 @@ fn bytes_at<const SIZE: usize>(bytes: &[u8], place: usize) -> [u8; SIZE]
         return *whole;
     }
     let mut padded = [0; SIZE];
-    padded[..rest.len()].copy_from_slice(rest);
+    // each by itself: a copy of a length that the compiler doesn't know is a call of `memcpy`
+    for i in 0..SIZE {
+        if i < rest.len() {
+            padded[i] = rest[i];
+        }
+    }
     padded
 }

@@ -1,6 +1,6 @@
 -- A law for each return of `frequency` and of `prescaled`.
-use Rattle.std.specs.Prelude.{◌≡◌, true, false, ◌&&◌, ◌⊎◌, ℕ, ◌-◌, ◌*◌, ◌^◌, ◌≤◌, ◌<◌, leb, eqb, ℤ, pos, negsuc, nat_abs, ◌-ℤ◌, ◌*ℤ◌, Err, Ok}
-use Rattle.std.proofs.Common.{sym, ap, ◌∙◌, inl, inr, mul-le-mul_right, lit<, leb-true, eqb-true, to_z, arith}
+use Rattle.std.specs.Prelude.{◌≡◌, true, false, ◌&&◌, ◌⊎◌, ℕ, ◌-◌, ◌*◌, ◌/◌, ◌^◌, ◌≤◌, ◌<◌, leb, eqb, ℤ, pos, negsuc, nat_abs, ◌-ℤ◌, ◌*ℤ◌, Err, Ok}
+use Rattle.std.proofs.Common.{sym, ap, ◌∙◌, inl, inr, div-lt_iff_lt-mul, le-div_iff_mul-le, mul-le-mul, mul-le-mul_right, lit<, SFits, leb-true, eqb-true, to_z, arith}
 use borrow.Author.Tests.{eq-eqb, ne_eqb}
 use Rattle.std.proofs.Math.Nat.{min-eq_left, min-eq_right}
 use Rattle.std.proofs.Math.IntN.{zero-*ℤ}
@@ -10,6 +10,7 @@ use Rattle.std.proofs.Math.Facts.{to_z_pos}
 use Rattle.limits.specs.Limits.{highest_frequency, largest_x}
 use Rattle.laws.specs.Cases.{decide, never, positive, both_right, split}
 use Rattle.laws.specs.Magnitude.{magnitude_product}
+use Rattle.laws.specs.SignedBits.{fits_64}
 use Rattle.whole.specs.Rounded.{rounded}
 use Rattle.whole.specs.RoundedLaws.{rounded_low}
 use Rattle.refusals.specs.declared.Refusal.{Refusal}
@@ -63,7 +64,7 @@ module _ (channel ns nr : ℕ) {cycles : Verdict} (first : cycles ≡ ask (leb 1
 -- ---- X
 
 -- the nearest number that has room in 64 bits: it is the number, or both are far from 0
-abbrev SameOrFar : (y z : ℤ) → Type 0
+abbrev pub SameOrFar : (y z : ℤ) → Type 0
 SameOrFar y z = (y ≡ z) ⊎ ((2 ^ 62 ≤ nat_abs y) × (2 ^ 62 ≤ nat_abs z))
 
 nearest : (z : ℤ) → SameOrFar (saturate_signed w64 z) z
@@ -75,6 +76,27 @@ nearest (negsuc n) =
     split n (2 ^ 63 - 1)
     (λ (h : n ≤ 2 ^ 63 - 1). inl (rw (min-eq_left h)))
     (λ (h : 2 ^ 63 - 1 < n). let l : 2 ^ 63 - 1 ≤ n = omega arith in inr (rw (min-eq_right l) (omega arith), omega arith))
+
+-- the product of a multiplier and a difference, where it is small, and where it is far from 0
+module _ (multiplier : ℕ) (difference : ℤ) where
+  pub near_fits : multiplier ≤ 2 ^ 30 → nat_abs difference < 2 ^ 33 → SFits w64 (pos multiplier *ℤ difference)
+  near_fits h k =
+      let l : nat_abs difference ≤ 2 ^ 33 - 1 = omega arith in
+      fits_64 (omega (arith, magnitude_product (pos multiplier) difference, mul-le-mul h l))
+
+  pub no_product : multiplier ≡ 0 → SameOrFar (pos 0) (pos multiplier *ℤ difference)
+  no_product e = inl (rw (e, zero-*ℤ difference))
+
+  module _ (some : multiplier ≡ 0 → ⊥) where
+    pub far_product : 2 ^ 62 / multiplier < nat_abs difference → SameOrFar (pos (2 ^ 63 - 1)) (pos multiplier *ℤ difference)
+    far_product h =
+        let large = (div-lt_iff_lt-mul {k = multiplier} {x = 2 ^ 62} {y = nat_abs difference} (positive some)).0 h in
+        inr (omega arith, omega (arith, magnitude_product (pos multiplier) difference, large))
+
+    pub product_fits : nat_abs difference ≤ 2 ^ 62 / multiplier → SFits w64 (pos multiplier *ℤ difference)
+    product_fits h =
+        let small = (le-div_iff_mul-le {k = multiplier} {x = nat_abs difference} {y = 2 ^ 62} (positive some)).0 h in
+        fits_64 (omega (arith, magnitude_product (pos multiplier) difference, small))
 
 -- their products with one multiplier are the same too, or both far from 0
 products : (m : ℕ) (y z : ℤ) → SameOrFar y z → SameOrFar (pos m *ℤ y) (pos m *ℤ z)
@@ -102,13 +124,14 @@ module _ (detail : ℕ) (p : Prescale) (f : ℤ) where
   order_zero e = rw (eq-eqb p.order 0 e)
 
   pub order_used : (p.order ≡ 0 → ⊥)
-      → within largest_x 24 detail (rounded (saturate_signed w64 (pos p.multiplier *ℤ saturate_signed w64 (f -ℤ pos p.offset))) (2 ^ 32)) ≡ prescaled_of detail p f
+      → (product : ℤ) → SameOrFar product (pos p.multiplier *ℤ saturate_signed w64 (f -ℤ pos p.offset))
+      → within largest_x 24 detail (rounded product (2 ^ 32)) ≡ prescaled_of detail p f
   unfolding prescaled_of scaled_of
-  order_used used =
+  order_used used product is =
       let difference = f -ℤ pos p.offset in
       let near = saturate_signed w64 difference in
       rw (ne_eqb p.order 0 used)
-      (x_of_product detail (saturate_signed w64 (pos p.multiplier *ℤ near)) (pos p.multiplier *ℤ near) (nearest (pos p.multiplier *ℤ near))
+      (x_of_product detail product (pos p.multiplier *ℤ near) is
       ∙ x_of_product detail (pos p.multiplier *ℤ near) (pos p.multiplier *ℤ difference) (products p.multiplier near difference (nearest difference)))
 
 -- an X that is known is within its limit

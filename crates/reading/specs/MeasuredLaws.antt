@@ -66,6 +66,10 @@ module _ (z low high : ℤ) where
   unfolding outside
   outside_above e = rw e
 
+pub byte_small : (b : Bool) {n : ℕ} → n ≡ bool_byte b → n ≤ 1
+byte_small true e = omega (arith, e)
+byte_small false e = omega (arith, e)
+
 -- the mark by its two tests
 module _ (identity : Identity) (pressure temperature : ℤ) where
   pub mark_is : (p t : Bool) {m n : ℕ} → t ≡ outside temperature identity.tmin identity.tmax → p ≡ outside pressure identity.pmin identity.pmax

@@ -42,6 +42,10 @@ pub fn refused_at(number: u32, place: usize) -> Verdict
 pub fn settled(answer: Filled, buffer: &mut [u8]) -> Filled
     ensures { Settled answer buffer.old result buffer.new }
 {
-    numbers::slices::clear_from(buffer, answer.unwrap_or(0));
+    // a case for each, so that what settles twice clears once
+    match answer {
+        Ok(length) => numbers::slices::clear_from(buffer, length),
+        Err(_) => numbers::slices::clear_from(buffer, 0),
+    }
     answer
 }

@@ -2,6 +2,8 @@
 // can't be written, it says why on standard error; a text that can't be read gets no verdict.
 #![tactic(auto)]
 
+ghost use Rattle.std.specs.Prelude.{◌≤◌, length, IfOk};
+
 use display::PAGE_SIZE;
 use limits::LONGEST_SHOWN_TEXT;
 use std::io;
@@ -12,6 +14,22 @@ const TEXT_ROOM: usize = LONGEST_SHOWN_TEXT + 1;
 
 // more than the longest that is shown of an error: its reason has 255 characters at most, and after it stands a number
 const ERROR_ROOM: usize = 300;
+
+// Reads until the buffer is full or the input ends, and answers how many bytes there are. Each read has all the room that is left: by
+// `io::copy`, which reads a part at a time, a socket that keeps the borders of messages loses what a message has beyond it.
+fn read_whole<R: Read>(input: &mut R, buffer: &mut [u8]) -> io::Result<usize>
+    ensures { IfOk result (λ n. n ≤ length buffer.new) }
+{
+    let mut done: usize = 0;
+    while done < buffer.len() {
+        let more = input.read(&mut buffer[done..])?;
+        if more == 0 {
+            return Ok(done);
+        }
+        done += more;
+    }
+    Ok(done)
+}
 
 // Of what is shown of an error the reason, in the system's words: its number stands after them.
 fn reason(shown: &str) -> &str {
@@ -36,11 +54,10 @@ fn fail(rt: &impl Eprint, what: &str, error: io::Error) -> io::Result<()> {
 
 fn main(rt: HostRuntime) -> io::Result<()> {
     let mut text = [0u8; TEXT_ROOM];
-    let copied = match io::copy(&mut rt.stdin().take(TEXT_ROOM as u64), &mut &mut text[..]) {
-        Ok(copied) => copied,
+    let length = match read_whole(&mut rt.stdin(), &mut text) {
+        Ok(length) => length,
         Err(error) => return fail(&rt, "show: the text can't be read", error),
     };
-    let length = TEXT_ROOM.min(copied as usize);
     let mut page = [0u8; PAGE_SIZE];
     let end = display::show(&text[..length], &mut page);
     match rt.write_all(&page[..end]) {

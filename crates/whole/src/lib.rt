@@ -29,6 +29,7 @@ pub fn beyond(number: i64, limit: u64) -> bool
 }
 
 // The wrapping sum: a + b, or where that does not fit the number that differs from it by 2^64.
+#[tactic(auto, using(crate::specs::WrappedLaws::wrapping_sum))]
 pub fn wrapped_sum(a: i64, b: i64) -> i64
     ensures { result ≡ wrapped (a +ℤ b) }
 {

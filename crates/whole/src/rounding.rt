@@ -1,5 +1,5 @@
 // A quotient rounded to the nearest whole number, halves upward.
-ghost use Rattle.std.specs.Prelude.{◌≡◌, ◌+◌, ◌<◌, ◌^◌, pos};
+ghost use Rattle.std.specs.Prelude.{◌≡◌, ◌+◌, ◌<◌, ◌≤◌, ◌^◌, pos};
 ghost use Rattle.whole.specs.Rounded.{rounded};
 
 // n / d; 0 where d is 0.
@@ -29,7 +29,15 @@ pub fn rounded_over<const POWER: u32>(n: i64) -> i64
     if 63 < POWER {
         return 0;
     }
-    rounded_by_half(n, 1 << (POWER - 1), POWER)
+    rounded_by_half(n, half_of(POWER), POWER)
+}
+
+// Half of 2^power.
+fn half_of(power: u32) -> u64
+    requires { (1 ≤ power) × (power < 64) }
+    ensures { result + result ≡ 2 ^ power }
+{
+    1 << (power - 1)
 }
 
 // n / 2^power, where `half` is half of 2^power: the greatest whole number at most (n + half) / 2^power.

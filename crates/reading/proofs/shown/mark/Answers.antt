@@ -3,7 +3,7 @@ use Rattle.std.specs.Int.Signed.{mag}
 use Rattle.std.proofs.Common.{◌≡◌, ◌^◌, ◌<◌, ℤ, SFits, to_z-of_z, arith, Bool}
 use Rattle.laws.specs.SignedBits.{kept, read_back}
 use Rattle.reading.specs.Measured.{outside}
-use Rattle.reading.specs.MeasuredLaws.{mark_is}
+use Rattle.reading.specs.MeasuredLaws.{byte_small, mark_is}
 use Rattle.reading.proofs.shown.mark.Goals as goal
 
 -- Each limit has 32 bits, and is read as it is.
@@ -16,4 +16,5 @@ returns c =
     let i = c.args.identity in
     let t = read_outside c.args.temperature i.tmin i.tmax c.ranges.temperature (omega arith) (omega arith) c.lies_outside.ensures in
     let p = read_outside c.args.pressure i.pmin i.pmax c.ranges.pressure (omega arith) (omega arith) c.lies_outside-2.ensures in
-    mark_is _ _ _ _ _ t p c.from.ensures c.from-2.ensures
+    let is = mark_is i c.args.pressure c.args.temperature _ _ t p c.from.ensures c.from-2.ensures in
+    omega (arith, byte_small _ c.from.ensures, byte_small _ c.from-2.ensures, is)

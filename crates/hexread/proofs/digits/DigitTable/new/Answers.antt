@@ -5,5 +5,4 @@ use Rattle.hexread.proofs.digits.DigitTable.new.Goals as goal
 
 pub invariant_of-result : goal.invariant_of-result
 unfolding is_value value_of digit
-invariant_of-result c =
-    rw (c.copy_from_slice.ensures.after, c.copy_from_slice-2.ensures.after, c.copy_from_slice-3.ensures.after) (record { all = digit_values_by_test _ refl tt })
+invariant_of-result c = record { all = digit_values_by_test _ refl tt }

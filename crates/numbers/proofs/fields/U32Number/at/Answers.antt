@@ -1,5 +1,9 @@
+use Rattle.std.proofs.Common.{arith}
 use Rattle.numbers.specs.FieldsLaws.{number_read}
 use Rattle.numbers.proofs.fields.U32Number.at.Goals as goal
 
 pub returns : goal.returns
-returns c = number_read 3 c.args.bytes.now c.bytes_at.result c.args.place c.from_le_bytes.result c.bytes_at.ensures c.from_le_bytes.ensures
+returns c =
+    let b = c.bytes_at in
+    let n = c.from_le_bytes in
+    omega (arith, number_read 3 c.args.bytes.now b.result _ c.args.place n.result b.ensures (omega arith) n.ensures)
