@@ -1,50 +1,52 @@
 // Pairs of characters as bytes, by a table of digit values.
 ghost use Rattle.std.specs.Prelude.{◌+◌, ◌<◌, length};
-ghost use Rattle.hexread.specs.DigitsLaws.{DigitValues, DigitValue, Pair};
+ghost use Rattle.hexread.specs.DigitsLaws.{NoDigits, DigitValues, DigitValue, Pair};
 
 // In place of a digit's value. Above what a record's six parts add up to, so that their sum shows whether one is no digits.
 pub const NO_DIGIT: usize = 2048;
 
+// Fills a table that holds NO_DIGIT alone with the digits' values.
+pub fn put_digits(values: &mut [u16; 256])
+    requires { NoDigits values.old }
+    ensures { DigitValues values.new }
+{
+    // each by itself: a copy of a slice also compares where both lie
+    // 0 to 9
+    values[48] = 0;
+    values[49] = 1;
+    values[50] = 2;
+    values[51] = 3;
+    values[52] = 4;
+    values[53] = 5;
+    values[54] = 6;
+    values[55] = 7;
+    values[56] = 8;
+    values[57] = 9;
+    // A to F
+    values[65] = 10;
+    values[66] = 11;
+    values[67] = 12;
+    values[68] = 13;
+    values[69] = 14;
+    values[70] = 15;
+    // a to f
+    values[97] = 10;
+    values[98] = 11;
+    values[99] = 12;
+    values[100] = 13;
+    values[101] = 14;
+    values[102] = 15;
+}
+
 // The value of each character as a hexadecimal digit, or NO_DIGIT: a table, for a pair by itself. It lies on the stack, so its entries are
 // no wider than they must be.
 #[derive(Clone, Copy)]
-pub struct DigitTable {
-    values: [u16; 256],
-    ghost all: { DigitValues values },
+pub struct DigitTable<'a> {
+    pub values: &'a [u16; 256],
+    ghost all: { DigitValues values.now },
 }
 
-impl DigitTable {
-    pub(crate) fn new() -> DigitTable {
-        let mut values = [NO_DIGIT as u16; 256];
-        // Each by itself: a copy of a slice compares where both lie, and the compiler then keeps the table, of 512 bytes, more than once.
-        // 0 to 9
-        values[48] = 0;
-        values[49] = 1;
-        values[50] = 2;
-        values[51] = 3;
-        values[52] = 4;
-        values[53] = 5;
-        values[54] = 6;
-        values[55] = 7;
-        values[56] = 8;
-        values[57] = 9;
-        // A to F
-        values[65] = 10;
-        values[66] = 11;
-        values[67] = 12;
-        values[68] = 13;
-        values[69] = 14;
-        values[70] = 15;
-        // a to f
-        values[97] = 10;
-        values[98] = 11;
-        values[99] = 12;
-        values[100] = 13;
-        values[101] = 14;
-        values[102] = 15;
-        DigitTable { values }
-    }
-
+impl DigitTable<'_> {
     #[tactic(auto, using(crate::specs::DigitsLaws::value_in_table))]
     fn value(&self, character: u8) -> usize
         ensures { DigitValue character result }

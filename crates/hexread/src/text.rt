@@ -3,7 +3,7 @@ ghost use Rattle.std.specs.Prelude.{length};
 ghost use Rattle.refusals.specs.RefusalsLaws.{Begins};
 ghost use Rattle.hextext.specs.Text.{read_text};
 
-use crate::digits::DigitTable;
+use crate::digits::{DigitTable, NO_DIGIT, put_digits};
 use crate::line::{Step, first_line};
 use hexline::room_in;
 use refusals::{Filled, Reason, Refusal};
@@ -12,7 +12,10 @@ use refusals::{Filled, Reason, Refusal};
 pub fn read_lines(text: &[u8], image: &mut [u8]) -> Filled
     ensures { Begins (read_text (length image.old) text.now) result image.new }
 {
-    let digits = DigitTable::new();
+    // filled where it is, and lent: a table that is moved, of 512 bytes, may be on the stack more than once
+    let mut values = [NO_DIGIT as u16; 256];
+    put_digits(&mut values);
+    let digits = DigitTable { values: &values };
     let room = room_in(image.len());
     let mut start: usize = 0;
     let mut size: usize = 0;

@@ -25,8 +25,8 @@ fn step(kind: u64, by: Prescaled, coefficient: i64, sum: i64) -> Result<i64, Ref
     limited(LARGEST_SUM, Reason::SumTooLarge, kind, next)
 }
 
-fn row_sum(kind: u64, by: Prescaled, row: [i64; GRID_SIZE]) -> Result<i64, Refusal>
-    ensures { result ≡ row_sum kind by.x row }
+fn row_sum(kind: u64, by: Prescaled, row: &[i64; GRID_SIZE]) -> Result<i64, Refusal>
+    ensures { result ≡ row_sum kind by.x row.now }
 {
     let mut sum = 0;
     for coefficient in row.iter().rev() {
@@ -35,8 +35,8 @@ fn row_sum(kind: u64, by: Prescaled, row: [i64; GRID_SIZE]) -> Result<i64, Refus
     Ok(sum)
 }
 
-fn is_zero(row: [i64; GRID_SIZE]) -> bool
-    ensures { result ≡ list_all (λ z. int_eq z (pos 0)) row }
+fn is_zero(row: &[i64; GRID_SIZE]) -> bool
+    ensures { result ≡ list_all (λ z. int_eq z (pos 0)) row.now }
 {
     row.iter().all(|coefficient| *coefficient == 0)
 }
@@ -46,11 +46,11 @@ fn row_step(
     kind: u64,
     by_pressure: Prescaled,
     by_temperature: Prescaled,
-    row: [i64; GRID_SIZE],
+    row: &[i64; GRID_SIZE],
     sum: i64,
 ) -> Result<i64, Refusal>
     requires { nat_abs sum ≤ largest_sum }
-    ensures { result ≡ row_step kind by_pressure.x by_temperature.x row sum }
+    ensures { result ≡ row_step kind by_pressure.x by_temperature.x row.now sum }
 {
     // an absent row under absent rows adds nothing
     if sum == 0 && is_zero(row) {
@@ -71,7 +71,7 @@ fn grid_sum(
 {
     let mut sum = 0;
     for row in grid.iter().rev() {
-        sum = row_step(kind, by_pressure, by_temperature, *row, sum)?;
+        sum = row_step(kind, by_pressure, by_temperature, row, sum)?;
     }
     Ok(sum)
 }

@@ -17,20 +17,25 @@ pub fn read_grid(body: &[u8]) -> [[i64; GRID_SIZE]; GRID_SIZE]
         return grid;
     }
     for (row, coefficients) in grid.iter_mut().enumerate() {
-        *coefficients = read_row(body, rows, places, row);
+        read_row(body, rows, places, row, coefficients);
     }
     grid
 }
 
-fn read_row(body: &[u8], rows: usize, places: usize, row: usize) -> [i64; GRID_SIZE]
+// A row, filled where it is: one that is moved may be on the stack twice.
+fn read_row(
+    body: &[u8],
+    rows: usize,
+    places: usize,
+    row: usize,
+    coefficients: &mut [i64; GRID_SIZE],
+)
     requires { GridRow body.now rows places row }
-    ensures { result ≡ row_from body.now row 5 0 }
+    ensures { coefficients.new ≡ row_from body.now row 5 0 }
 {
-    let mut coefficients = [0i64; GRID_SIZE];
     for (place, coefficient) in coefficients.iter_mut().enumerate() {
         *coefficient = read_place(body, rows, places, row, place);
     }
-    coefficients
 }
 
 fn read_place(body: &[u8], rows: usize, places: usize, row: usize, place: usize) -> i64
