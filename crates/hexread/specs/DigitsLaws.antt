@@ -1,5 +1,5 @@
 -- A character's value by the table, and the byte that a pair of characters spells by it.
-use Rattle.std.specs.Prelude.{◌≡◌, Bool, false, cond, List, ℕ, ◌+◌, ◌*◌, ◌≤◌, ◌<◌, T, ltb, eqb, length, drop, replicate, get_or}
+use Rattle.std.specs.Prelude.{◌≡◌, Bool, false, cond, List, ℕ, ◌+◌, ◌*◌, ◌≤◌, ◌<◌, T, ltb, eqb, length, drop, get_or}
 use Rattle.std.proofs.Common.{◌∙◌, arith, lt-ltb, le-ltb, eqb→eq, Fits}
 use Rattle.std.specs.Int.{w64}
 use Rattle.laws.specs.Cases.{split}
@@ -33,10 +33,6 @@ module _ (c : ℕ) where
 pub record DigitValue (c r : ℕ) : Type 0 where
   pub is : r ≡ value_of c
   pub bound : r ≤ no_digit
-
--- a table that has no digit's value yet
-abbrev pub NoDigits : List ℕ → Type 0
-NoDigits t = t ≡ replicate 256 no_digit
 
 -- a table of these values
 pub record DigitValues (t : List ℕ) : Type 0 where

@@ -1,16 +1,16 @@
 // Pairs of characters as bytes, by a table of digit values.
-ghost use Rattle.std.specs.Prelude.{◌+◌, ◌<◌, length};
-ghost use Rattle.hexread.specs.DigitsLaws.{NoDigits, DigitValues, DigitValue, Pair};
+ghost use Rattle.std.specs.Prelude.{◌≡◌, ◌+◌, ◌<◌, length, replicate};
+ghost use Rattle.hexread.specs.DigitsLaws.{no_digit, DigitValues, DigitValue, Pair};
 
 // In place of a digit's value. Above what a record's six parts add up to, so that their sum shows whether one is no digits.
 pub const NO_DIGIT: usize = 2048;
 
 // Fills a table that holds NO_DIGIT alone with the digits' values.
 pub fn put_digits(values: &mut [u16; 256])
-    requires { NoDigits values.old }
+    requires { values.old ≡ replicate 256 no_digit }
     ensures { DigitValues values.new }
 {
-    // each by itself: a copy of a slice also compares where both lie
+    // one by one: `copy_from_slice` also tests whether the two slices overlap
     // 0 to 9
     values[48] = 0;
     values[49] = 1;
